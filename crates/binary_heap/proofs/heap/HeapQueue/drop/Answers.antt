@@ -1,0 +1,46 @@
+use mathlib.Core.Path.{_≡_, refl, sym, ap, subst, _∙_}
+use mathlib.Core.List.{[], _∷_}
+use mathlib.Core.Bool.{true, false}
+use native.Mathlib.Omega.{arith}
+use Prim.Native.Nat.{min, _<_, _≤_}
+use lib.ListN.{length, take}
+use Rattle.std.specs.Options.{isSome}
+use Rattle.std.specs.declared.option.Option.the-variants.{Some, None}
+use Rattle.event_queue.specs.Refusals.{_when_}
+use Rattle.event_queue.specs.declared.refusal.Refusal.the-variants.{NoSuchTicket, TicketHeld}
+use Rattle.event_queue.proofs.Laws.{accepted-below, refused-past, put-accepted, topmost-true}
+use Rattle.event_queue.proofs.Orders.{Total, all-later}
+use Rattle.binary_heap.specs.Meanings.{heap-meaning}
+use Rattle.binary_heap.specs.Slots.{columns, key-of}
+use Rattle.binary_heap.proofs.Heaps.{keyed-others}
+use Rattle.binary_heap.proofs.Methods.{key-64, held-64, capacity-64, there-64}
+use Rattle.binary_heap.proofs.heap.HeapQueue.drop.Needs as need
+
+pub returns-in-rest : need.returns-in-rest
+returns-in-rest g c =
+    let xs = c .args .self .now .cells .now in
+    let n = c .args .ticket in
+    let b : n < min (length xs) 64 = omega arith in
+    record {
+      after = (refl, λ s. (accepted-below NoSuchTicket (min (length xs) 64) n [] b, key-64 xs n (c .index-self-ticket .result) b ∙ c .in-rest .is));
+      keeps = (refl, refl);
+    }
+
+pub returns : need.returns
+returns g c =
+    let xs = c .args .self .now .cells .now in
+    let zs = c .remove-front-self .last .cells in
+    let n = c .args .ticket in
+    let o = g .K·Key .before in
+    let b : n < min (length xs) 64 = omega arith in
+    let held = key-64 xs n (c .index-self-ticket .result) b ∙ c .in-Some .is in
+    let r = c .remove-front-self .result in
+    record {
+      after = λ s.
+          let k = c .remove-front-self .ensures .keyed (c .in-Some .key) s held in (
+            accepted-below NoSuchTicket (min (length xs) 64) n [] b,
+            held,
+            record { sound = k .sound; capacity = capacity-64 xs o zs r n None k; there = there-64 xs o zs r n None k b; others = keyed-others (take 64 xs) (take 64 zs) n None (k .keys) },
+          );
+      keeps = (refl, c .remove-front-self .ensures .past);
+    }

@@ -1,0 +1,5 @@
+pub mod cell;
+pub mod heap;
+mod sift;
+mod slots;
+mod tickets;

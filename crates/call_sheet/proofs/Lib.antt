@@ -1,0 +1,3 @@
+mod Clearing
+mod Leading
+pub mod Staying

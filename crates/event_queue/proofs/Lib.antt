@@ -1,0 +1,4 @@
+pub mod Orders
+pub mod Counts
+pub mod Fronts
+pub mod Laws

@@ -1,0 +1,3 @@
+pub mod key;
+pub mod queue;
+pub mod refusal;

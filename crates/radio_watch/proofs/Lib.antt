@@ -1,0 +1,6 @@
+mod Spans
+mod Numbers
+mod Names
+mod Items
+mod Reports
+mod Journals

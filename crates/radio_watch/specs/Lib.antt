@@ -1,0 +1,5 @@
+pub mod Script
+pub mod Spans
+pub mod Report
+pub mod Journal
+pub mod Watch
