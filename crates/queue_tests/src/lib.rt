@@ -1,8 +1,7 @@
 // Examples of what the event queues and the call sheet answer.
 
-pub mod lent;
-
 #[cfg(test)]
 mod heap;
+pub mod lent;
 #[cfg(test)]
 mod sheet;

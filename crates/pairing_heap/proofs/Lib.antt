@@ -1,0 +1,12 @@
+pub mod Columns
+pub mod Trees
+pub mod Melding
+pub mod Counting
+pub mod Changes
+pub mod Inserting
+pub mod Cutting
+pub mod Splitting
+pub mod Removing
+pub mod Roots
+pub mod Parts
+pub mod Methods

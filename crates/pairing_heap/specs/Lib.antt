@@ -1,0 +1,5 @@
+pub mod Links
+pub mod Forests
+pub mod Melds
+pub mod Sound
+pub mod Meanings
