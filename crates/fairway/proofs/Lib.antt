@@ -1,0 +1,16 @@
+pub mod Laws
+pub mod Kinetic
+pub mod Fractions
+pub mod Totals
+pub mod Sorting
+pub mod Alike
+pub mod Advance
+pub mod Standings
+pub mod Stamps
+pub mod Instants
+pub mod Wide
+pub mod Meetings
+pub mod Lists
+pub mod Pairs
+pub mod Examples
+pub mod Loads

@@ -1,0 +1,14 @@
+pub mod Times
+pub mod Fractions
+pub mod Courses
+pub mod Stamps
+pub mod Refusals
+pub mod Instants
+pub mod Behind
+pub mod Pairs
+pub mod Meetings
+pub mod Orders
+pub mod Runs
+pub mod Standing
+pub mod Lists
+pub mod Examples
