@@ -1,0 +1,5 @@
+pub mod Refusals
+pub mod Numbers
+pub mod Limits
+pub mod Structures
+pub mod Settling
