@@ -16,7 +16,7 @@ use Rattle.fairway.specs.declared.course.Course.{Course}
 use Rattle.kinetic.specs.Limits.{due}
 use Rattle.kinetic.specs.Numbers.{listed}
 use Rattle.kinetic.specs.Structures.{Meaning, None-due, Rests, Front, In-front, Certified, Mended, Mend, mend-refusal}
-use Rattle.kinetic.specs.Settling.{First-due, Settling}
+use Rattle.kinetic.specs.Settling.{First-due, Settled}
 use Rattle.kinetic.specs.declared.numbers.Numbers.{Numbers}
 use Rattle.kinetic.specs.declared.refusal.Refusal.{Refusal}
 use Rattle.kinetic.specs.declared.refusal.Refusal.the-variants.{NotDue}
@@ -40,30 +40,37 @@ module _ {S : Type 0} (m : Meaning S) where
       let z : _≡_ {A = ℕ} 0 1 = cc in
       absurd (omega arith)
 
-  -- on the way: as many mends as the load has lost
-  abbrev pub Midway : Time → S → S → ℕ → Type 0
-  Midway t s s' mends = m .standing t s → m .standing t s' × ((n : ℕ) → m .roster s' n ≡ m .roster s n) × (m .load s' + mends ≤ m .load s)
+  -- on the way: the roster is as it was, and a structure that stood stands, with as many mends as the load has lost
+  pub record Midway (t : Time) (s s' : S) (mends : ℕ) : Type 0 where
+    pub roster : (n : ℕ) → m .roster s' n ≡ m .roster s n
+    pub stands : m .standing t s → m .standing t s' × (m .load s' + mends ≤ m .load s)
 
   pub midway-none : (t : Time) (s : S) → Midway t s s 0
-  midway-none t s st = (st, (λ n. refl), omega arith)
+  midway-none t s = record { roster = λ n. refl; stands = λ st. (st, omega arith) }
 
   pub midway-more : (t : Time) (s a b : S) (k i : ℕ) (r : Result Numbers Refusal) → Midway t s a k → due t (m .certificate a i) ≡ true → Mended m t a b i r → Midway t s b (k + 1)
-  midway-more t s a b k i r w d e st =
-      let x = w st in
+  midway-more t s a b k i r w d e =
       let y = mended t a b i r d e .1 in
-      let z = y .stands (x .0) in
-      (z .0, (λ n. y .roster n ∙ x .1 n), omega (arith, x .2, z .1))
-
-  pub settled : In-front m → (t : Time) (s s' : S) (k : ℕ) (v : Option ℕ) → v ≡ m .foremost s' → Midway t s s' k → None-due m t s' → m .standing t s → Settling m t s s' v
-  settled law t s s' k v e w n st =
-      let x = w st in
       record {
-        roster = x .1;
-        rests = (x .0, n);
-        answer-is = e;
-        front = same-front t (m .roster s') (m .roster s) v (x .1) (subst (Front t (m .roster s')) (sym e) (law t s' (x .0, n)));
+        roster = λ n. y .roster n ∙ w .roster n;
+        stands = λ st. let x = w .stands st in let z = y .stands (x .0) in (z .0, omega (arith, x .1, z .1));
       }
 
-  -- more mends than the load cannot be
-  pub no-more : (t : Time) (s s' : S) (k : ℕ) → Midway t s s' k → m .load s < k → m .standing t s → ⊥
-  no-more t s s' k w h st = let x = w st in omega (arith, x .2)
+  pub settled : In-front m → (t : Time) (s s' : S) (k : ℕ) (v : Option ℕ) → v ≡ m .foremost s' → Midway t s s' k → None-due m t s' → Settled m t s s' v
+  settled law t s s' k v e w n =
+      record {
+        roster = w .roster;
+        answer-is = e;
+        rests = λ st. (w .stands st .0, n);
+        front = λ st. same-front t (m .roster s') (m .roster s) v (w .roster) (subst (Front t (m .roster s')) (sym e) (law t s' (w .stands st .0, n)));
+      }
+
+  -- more mends than the load cannot be of a structure that stood
+  pub unsettled : (t : Time) (s s' : S) (k : ℕ) (v : Option ℕ) → v ≡ m .foremost s' → Midway t s s' k → m .load s < k → Settled m t s s' v
+  unsettled t s s' k v e w h =
+      record {
+        roster = w .roster;
+        answer-is = e;
+        rests = λ st. absurd (omega (arith, w .stands st .1));
+        front = λ st. absurd (omega (arith, w .stands st .1));
+      }

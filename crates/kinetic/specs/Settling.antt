@@ -14,12 +14,10 @@ module _ {S : Type 0} (m : Meaning S) where
   First-due t s (Some i) = (due t (m .certificate s i) ≡ true) × ((k : ℕ) → k < i → due t (m .certificate s k) ≡ false)
   First-due t s None = None-due m t s
 
-  -- the roster is as it was, nothing is due, and the answer is the roster's foremost at t
-  pub record Settling (t : Time) (s s' : S) (answer : Option ℕ) : Type 0 where
+  -- The roster is as it was, and the answer is what foremost answers then. Of a structure that stood, nothing is due
+  -- any more, and the answer is the roster's foremost at t.
+  pub record Settled (t : Time) (s s' : S) (answer : Option ℕ) : Type 0 where
     pub roster : (n : ℕ) → m .roster s' n ≡ m .roster s n
-    pub rests : Rests m t s'
     pub answer-is : answer ≡ m .foremost s'
-    pub front : Front t (m .roster s) answer
-
-  abbrev pub Settled : Time → S → S → Option ℕ → Type 0
-  Settled t s s' answer = m .standing t s → Settling t s s' answer
+    pub rests : m .standing t s → Rests m t s'
+    pub front : m .standing t s → Front t (m .roster s) answer

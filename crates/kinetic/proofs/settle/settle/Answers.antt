@@ -1,6 +1,6 @@
 use native.Mathlib.Omega.{arith}
 use Rattle.fairway.specs.Stamps.{time-of}
-use Rattle.kinetic.proofs.Settling.{midway-none, midway-more, settled, no-more}
+use Rattle.kinetic.proofs.Settling.{midway-none, midway-more, settled, unsettled}
 use Rattle.kinetic.proofs.settle.settle.Needs as need
 
 pub loop-mends-holds : need.loop-mends-holds
@@ -17,5 +17,6 @@ loop-mends-again g c =
     (c .loop-mends .inv) (c .in-Some .ensures tt .0) (c .mend .ensures)
 
 pub returns : need.returns
-returns g c st =
-    absurd (no-more (g .S·Structure .means) (time-of (c .args .at)) (c .args .structure .now) (c .loop-mends .structure) (c .loop-mends .mends) (c .loop-mends .inv) (omega (arith, c .load-most .ensures, c .loop-mends-test .left)) st)
+returns g c =
+    unsettled (g .S·Structure .means) (time-of (c .args .at)) (c .args .structure .now) (c .loop-mends .structure) (c .loop-mends .mends) (c .foremost-2 .result) (c .foremost-2 .ensures) (c .loop-mends .inv)
+    (omega (arith, c .load-most .ensures, c .loop-mends-test .left))
