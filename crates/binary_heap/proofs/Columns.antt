@@ -6,21 +6,13 @@ use native.Mathlib.Omega.{arith}
 use lib.ListN.{length, getD, set}
 use Rattle.std.specs.declared.option.Option.{Option}
 use Rattle.std.specs.declared.option.Option.the-variants.{None}
+use Rattle.event_queue.proofs.Columns.{map-kept, map-past}
 use Rattle.std.proofs.shelf.Lists.{map-set, set-past, length-map, getD-map, getD-past}
 use Rattle.binary_heap.specs.Slots.{Columns, columns, key-of, slot-of, ticket-at, key-at, with-key, with-ticket, with-slot, seated, exchanged}
 use Rattle.binary_heap.specs.declared.cell.Cell.{Cell}
 
 columns-from : {K : Type 0} {k k' : List (Option K)} {s s' i i' : List ℕ} → k ≡ k' → s ≡ s' → i ≡ i' → _≡_ {A = Columns K} (record { key = k; slot = s; ticket = i }) (record { key = k'; slot = s'; ticket = i' })
 columns-from e f g = rw (e, f, g)
-
--- a field that a write keeps
-map-kept : {X Y : Type 0} (f : X → Y) (xs : List X) (i : ℕ) (d y : X) → f y ≡ f (getD xs i d) → map f (set xs i y) ≡ map f xs
-map-kept f [] i d y e = refl
-map-kept f (x ∷ xs) zero d y e = ap (λ v. v ∷ map f xs) e
-map-kept f (x ∷ xs) (suc i) d y e = ap (λ v. f x ∷ v) (map-kept f xs i d y e)
-
-map-past : {X Y : Type 0} (f : X → Y) (xs : List X) (i : ℕ) (v : Y) → length xs ≤ i → map f xs ≡ set (map f xs) i v
-map-past f xs i v h = sym (set-past (map f xs) i v (simp length-map h))
 
 module _ {K : Type 0} (cells : List (Cell K)) where
   pub key-length : length (columns cells .key) ≡ length cells

@@ -23,7 +23,8 @@ use Rattle.binary_heap.specs.Sound.{Sound, Keyed, Earliest}
 use Rattle.binary_heap.proofs.Columns.{key-length}
 use Rattle.binary_heap.proofs.Sifting.{top-first}
 use Rattle.binary_heap.proofs.Sifts.{cells-even}
-use Rattle.binary_heap.proofs.Seating.{insert-linked, insert-upward, remove-linked, remove-loose, remove-ordered, some-none}
+use Rattle.binary_heap.proofs.Seating.{insert-linked, insert-upward, remove-linked, remove-loose, remove-ordered}
+use Rattle.event_queue.proofs.Options.{some-none}
 
 -- a ticket that holds a key is one of the cells
 pub held-cell : {K : Type 0} (cells : List (Cell K)) (i : ℕ) (k : K) → key-of (columns cells) i ≡ Some k → i < length cells

@@ -15,7 +15,7 @@ use Rattle.binary_heap.specs.Slots.{Linked, Seat, columns, key-of, ticket-at}
 use Rattle.binary_heap.specs.Sound.{Sound, Keyed, Earliest}
 use Rattle.binary_heap.proofs.Columns.{key-read, ticket-read, key-length}
 use Rattle.binary_heap.proofs.Heaps.{keyed-length, keyed-there, held-cell, first-held}
-use Rattle.binary_heap.proofs.Seating.{some-none}
+use Rattle.event_queue.proofs.Options.{some-none}
 
 module _ {K : Type 0} (xs : List (Cell K)) where
   pub in-64 : (n : ℕ) → n < min (length xs) 64 → n < length (take 64 xs)

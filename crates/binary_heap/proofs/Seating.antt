@@ -13,6 +13,7 @@ use Rattle.std.proofs.shelf.Tests.{cases-eq}
 use Rattle.std.proofs.shelf.Lists.{getD-set-same, getD-set-other, length-set, getD-past}
 use Rattle.event_queue.specs.Orders.{sooner}
 use Rattle.event_queue.specs.Queues.{count-below}
+use Rattle.event_queue.proofs.Options.{some-none}
 use Rattle.event_queue.proofs.Orders.{Total, sooner-carries}
 use Rattle.event_queue.proofs.Counts.{count-more, count-room, count-some}
 use Rattle.binary_heap.specs.declared.cell.Cell.{Cell}
@@ -24,10 +25,6 @@ use Rattle.binary_heap.proofs.Columns.{key-length}
 use Rattle.binary_heap.proofs.Seats.{Even, seated-ticket, seated-slot, seated-ticket-other, seated-slot-other, seat-from}
 use Rattle.binary_heap.proofs.Sifting.{later-as}
 use Rattle.binary_heap.proofs.Sifts.{cells-even}
-
--- a key is not none
-pub some-none : {K : Type 0} (o : Option K) (k : K) → o ≡ Some k → o ≡ None → ⊥
-some-none o k e f = let z : _≡_ {A = ℕ} 0 1 = cc in omega arith
 
 -- The ticket i, which holds no key, gets one and stands in the slot n.
 module _ {K : Type 0} (before : K → K → Bool) (t : Columns K) (even : Even t) (n i : ℕ) (k : K) (l : Linked t n) (hn : n < length (t .key)) (hi : i < length (t .key)) (free : key-of t i ≡ None) where

@@ -14,6 +14,7 @@ use Rattle.std.specs.declared.option.Option.{Option}
 use Rattle.std.specs.declared.option.Option.the-variants.{Some, None}
 use Rattle.std.specs.shelf.Lists.{sumBy}
 use Rattle.std.proofs.shelf.Tests.{cases-lt, true≢false, false≢true}
+use Rattle.event_queue.proofs.Options.{none-some, some-same}
 use Rattle.fairway.specs.Times.{Time, Proper}
 use Rattle.fairway.specs.Courses.{faster, Due}
 use Rattle.fairway.specs.Behind.{behind}
@@ -49,16 +50,10 @@ pair-mid xs p d h k =
     let e : suc (p - 1) ≡ p = omega arith in
     subst (λ z. pair-at xs (p - 1) ≡ Some (pair (getD xs (p - 1) d) (getD xs z d))) e (pair-get xs (p - 1) d (omega arith))
 
-none-some : {p : Pair} → _≡_ {A = Option Pair} None (Some p) → ⊥
-none-some e = let z : _≡_ {A = ℕ} 0 1 = cc in omega arith
-
 pub same-pair : (a b r f : Course) (o : Option Pair) → o ≡ Some (pair a b) → o ≡ Some (pair r f) → (a ≡ r) × (b ≡ f)
 same-pair a b r f o e g =
     let q : pair a b ≡ pair r f = some-same (sym e ∙ g) in
     (ap (λ z. z .rear) q, ap (λ z. z .front) q)
-  where
-    some-same : {x y : Pair} → _≡_ {A = Option Pair} (Some x) (Some y) → x ≡ y
-    some-same e = cc
 
 -- P of the neighbours up to the place p
 abbrev pub Checked : (Course → Course → Type 0) → List Course → ℕ → Type 0

@@ -11,6 +11,7 @@ use Rattle.std.proofs.shelf.Signed.{ints, by-ltZ}
 use Rattle.std.proofs.shelf.Tests.{cases-bool, cases-lt, cond-true, cond-false, and-from, and-left, and-right}
 use Rattle.std.specs.declared.option.Option.{Option}
 use Rattle.std.specs.declared.option.Option.the-variants.{Some, None}
+use Rattle.event_queue.proofs.Options.{none-some, some-same}
 use Rattle.fairway.specs.Times.{Time, ratio, _≤ᵗ_, _=ᵗ_}
 use Rattle.fairway.specs.Fractions.{gcd, Coprime}
 use Rattle.fairway.specs.Stamps.{den, time-of, Below-one}
@@ -220,9 +221,3 @@ not-level-yet r f s e u h F =
     let l : Lowest (gap r f) (gain r f) s = subst (Lowest (gap r f) (gain r f)) q (lowest-is (gap r f) (gain r f) (gain-pos r f F b)) in
     le-back (r .speed -ℤ f .speed) (f .base -ℤ r .base) (gap r f) (gain r f) (u .num) (u .den) (gained r f F b) (apart r f F b)
     (same-not-later (u .num) (u .den) (time-of s .num) (den s) (gap r f) (gain r f) (omega arith) (l .same) h))
-  where
-    none-some : {x : Stamp} → _≡_ {A = Option Stamp} None (Some x) → ⊥
-    none-some e = let z : _≡_ {A = ℕ} 0 1 = cc in omega arith
-
-    some-same : {x y : Stamp} → _≡_ {A = Option Stamp} (Some x) (Some y) → x ≡ y
-    some-same e = cc

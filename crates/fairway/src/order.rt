@@ -11,7 +11,7 @@ use crate::pair::is_turned;
 use crate::stamp::Stamp;
 
 // How many of the courses are slower than the rear.
-fn count_slower(courses: &[Course], rear: Course) -> usize
+pub fn count_slower(courses: &[Course], rear: Course) -> usize
     ensures count { λ r. ⌜ r ≡ slower-than rear (now (courses .entry)) ⌝ }
     ensures few { λ r. ⌜ r ≤ length (now (courses .entry)) ⌝ }
 {

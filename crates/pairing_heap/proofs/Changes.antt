@@ -17,7 +17,7 @@ use Rattle.pairing_heap.specs.Melds.{Made}
 use Rattle.pairing_heap.specs.Sound.{bit, Keyed}
 use Rattle.pairing_heap.proofs.Columns.{key-length}
 use Rattle.pairing_heap.proofs.Counting.{bit-here, bit-other}
-use Rattle.pairing_heap.proofs.Trees.{some-none}
+use Rattle.event_queue.proofs.Options.{some-none}
 
 -- a ticket that holds a key is one of the cells
 pub held-cell : {K : Type 0} (cells : List (Node K)) (i : ℕ) (k : K) → key-of (columns cells) i ≡ Some k → i < length cells

@@ -7,21 +7,13 @@ use native.Mathlib.Omega.{arith}
 use lib.ListN.{length, getD, set}
 use Rattle.std.specs.declared.option.Option.{Option}
 use Rattle.std.specs.declared.option.Option.the-variants.{Some, None}
+use Rattle.event_queue.proofs.Columns.{map-kept, map-past}
 use Rattle.std.proofs.shelf.Lists.{map-set, set-past, length-map, getD-map, getD-past}
 use Rattle.pairing_heap.specs.Links.{Columns, columns, key-of, child-of, next-of, back-of, with-key, with-child, with-next, with-back, linked, leads-to, bypassed, taken-from, without-tree}
 use Rattle.pairing_heap.specs.declared.node.Node.{Node}
 
 columns-from : {K : Type 0} {k k' : List (Option K)} {c c' n n' b b' : List (Option ℕ)} → k ≡ k' → c ≡ c' → n ≡ n' → b ≡ b' → _≡_ {A = Columns K} (record { key = k; child = c; next = n; back = b }) (record { key = k'; child = c'; next = n'; back = b' })
 columns-from e f g h = rw (e, f, g, h)
-
--- a field that a write keeps
-map-kept : {X Y : Type 0} (f : X → Y) (xs : List X) (i : ℕ) (d y : X) → f y ≡ f (getD xs i d) → map f (set xs i y) ≡ map f xs
-map-kept f [] i d y e = refl
-map-kept f (x ∷ xs) zero d y e = ap (λ v. v ∷ map f xs) e
-map-kept f (x ∷ xs) (suc i) d y e = ap (λ v. f x ∷ v) (map-kept f xs i d y e)
-
-map-past : {X Y : Type 0} (f : X → Y) (xs : List X) (i : ℕ) (v : Y) → length xs ≤ i → map f xs ≡ set (map f xs) i v
-map-past f xs i v h = sym (set-past (map f xs) i v (simp length-map h))
 
 -- the columns are equally long
 pub record Even {K : Type 0} (t : Columns K) : Type 0 where

@@ -14,7 +14,8 @@ use Rattle.std.proofs.shelf.Tests.{cases-eq, cases-lt, eq-eqb, ne-eqb, eqb-true
 use Rattle.pairing_heap.specs.Links.{Columns, child-of, next-of, back-of, leads-to, taken-from}
 use Rattle.pairing_heap.specs.Forests.{Forest, nil, node, one, times, nodes, Leads, None-sooner, Ordered}
 use Rattle.pairing_heap.proofs.Columns.{Even}
-use Rattle.pairing_heap.proofs.Trees.{some-none, same-some, one-same, one-eq, one-other, set-at-same, set-at-other, first-apart, first-cell, first-back, first-in, rehead}
+use Rattle.event_queue.proofs.Options.{some-none, same-some}
+use Rattle.pairing_heap.proofs.Trees.{one-same, one-eq, one-other, set-at-same, set-at-other, first-apart, first-cell, first-back, first-in, rehead}
 
 -- whether a link leads to a ticket
 

@@ -12,7 +12,8 @@ use Rattle.pairing_heap.specs.Links.{Columns, key-of, next-of, linked}
 use Rattle.pairing_heap.specs.Forests.{nil, node, Leads, Rooted, Ordered}
 use Rattle.pairing_heap.specs.Melds.{Made, Melds, Melds-pairs}
 use Rattle.pairing_heap.proofs.Columns.{Even}
-use Rattle.pairing_heap.proofs.Trees.{some-none, same-some, same-on, leads-frame, rooted-frame, link-made}
+use Rattle.event_queue.proofs.Options.{some-none, same-some}
+use Rattle.pairing_heap.proofs.Trees.{same-on, leads-frame, rooted-frame, link-made}
 
 -- the same, counted in another way
 made-as : {K : Type 0} {before : K → K → Bool} {t u : Columns K} {r : Option ℕ} (f g : ℕ → ℕ) (m n : ℕ) → ((j : ℕ) → f j ≡ g j) → m ≡ n → Made before t u r f m → Made before t u r g n

@@ -18,7 +18,8 @@ use Rattle.pairing_heap.proofs.Columns.{key-length, cells-even}
 use Rattle.pairing_heap.proofs.Counting.{nodes-le, bit-le}
 use Rattle.pairing_heap.proofs.Changes.{made-keyed, held-cell}
 use Rattle.pairing_heap.proofs.Splitting.{Split, split-tree}
-use Rattle.pairing_heap.proofs.Trees.{some-none, same-some, one-eq, one-other, apart, leads-frame, rooted-frame, ordered-frame}
+use Rattle.event_queue.proofs.Options.{some-none, same-some}
+use Rattle.pairing_heap.proofs.Trees.{one-eq, one-other, apart, leads-frame, rooted-frame, ordered-frame}
 
 -- the tree under a root
 pub tree-root : {K : Type 0} (t : Columns K) (link : Option ℕ) (F : Forest) (i : ℕ) → Rooted t link F → link ≡ Some i → (k : Forest) × (F ≡ node i k nil) × (i < length (t .key)) × Leads t i (child-of t i) k

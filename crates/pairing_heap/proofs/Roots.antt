@@ -17,7 +17,8 @@ use Rattle.pairing_heap.specs.Forests.{Forest, nil, node, one, times, None-soo
 use Rattle.pairing_heap.specs.Sound.{bit, Sound}
 use Rattle.pairing_heap.proofs.Columns.{key-length}
 use Rattle.pairing_heap.proofs.Removing.{tree-root, some-root}
-use Rattle.pairing_heap.proofs.Trees.{some-none, one-same, one-other}
+use Rattle.event_queue.proofs.Options.{some-none}
+use Rattle.pairing_heap.proofs.Trees.{one-same, one-other}
 
 -- no ticket of a tree in order comes sooner than the root
 module _ {K : Type 0} (before : K → K → Bool) (o : Total before) (keys : List (Option K)) where

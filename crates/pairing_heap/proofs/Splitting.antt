@@ -11,7 +11,8 @@ use Rattle.pairing_heap.specs.Forests.{Forest, nil, node, one, times, nodes, L
 use Rattle.pairing_heap.specs.Melds.{Same}
 use Rattle.pairing_heap.proofs.Columns.{Even}
 use Rattle.pairing_heap.proofs.Cutting.{past, without, child-past, child-kept, next-kept, back-kept, cut-leads, none-sooner-without, ordered-without, Found, find}
-use Rattle.pairing_heap.proofs.Trees.{same-some, one-same, first-apart, first-back, leads-frame}
+use Rattle.event_queue.proofs.Options.{same-some}
+use Rattle.pairing_heap.proofs.Trees.{one-same, first-apart, first-back, leads-frame}
 
 -- the children of the root, without the tree of n, and the children of n
 pub record Split {K : Type 0} (before : K → K → Bool) (t u : Columns K) (root n : ℕ) (k : Forest) : Type 0 where

@@ -11,17 +11,11 @@ use Rattle.std.proofs.shelf.Lists.{getD-set-same, getD-set-other, length-set}
 use Rattle.std.specs.declared.option.Option.{Option}
 use Rattle.std.specs.declared.option.Option.the-variants.{Some, None}
 use Rattle.event_queue.specs.Orders.{sooner}
+use Rattle.event_queue.proofs.Options.{some-none, same-some}
 use Rattle.pairing_heap.specs.Links.{Columns, key-of, child-of, next-of, back-of, set-at, linked}
 use Rattle.pairing_heap.specs.Forests.{Forest, nil, node, one, times, nodes, Leads, Rooted, None-sooner, Ordered}
 use Rattle.pairing_heap.specs.Melds.{Same, Made}
 use Rattle.pairing_heap.proofs.Columns.{Even}
-
--- what is there is not none, and is one thing
-pub some-none : {X : Type 0} (o : Option X) (x : X) → o ≡ Some x → o ≡ None → ⊥
-some-none o x e f = let z : _≡_ {A = ℕ} 0 1 = cc in omega arith
-
-pub same-some : {X : Type 0} (o : Option X) (x y : X) → o ≡ Some x → o ≡ Some y → x ≡ y
-same-some o x y e f = cc
 
 -- a count of one ticket
 

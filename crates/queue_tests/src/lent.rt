@@ -8,7 +8,7 @@ use event_queue::queue::Queue;
 
 // Holds two keys in lent cells, and takes one out: the cells past the 64th are as they were, whatever the
 // cells held.
-pub fn take_one(cells: &mut [Cell<u32>]) -> bool
+fn take_one(cells: &mut [Cell<u32>]) -> bool
     ensures { λ _. ⌜ drop 64 (now (cells .exit)) ≡ drop 64 (now (cells .entry)) ⌝ }
 {
     let mut queue: BinaryHeap<u32> = BinaryHeap::new(cells);

@@ -2,6 +2,6 @@
 
 #[cfg(test)]
 mod heap;
-pub mod lent;
+mod lent;
 #[cfg(test)]
 mod sheet;

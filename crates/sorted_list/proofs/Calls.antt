@@ -22,7 +22,8 @@ use Rattle.kinetic.specs.Limits.{due}
 use Rattle.kinetic.specs.Numbers.{among}
 use Rattle.kinetic.proofs.Tests.{due-pair, tested}
 use Rattle.sorted_list.specs.Rosters.{well, course-of, certificate-at, without}
-use Rattle.sorted_list.proofs.Rosters.{Fits, some-same, of-absent, well-apart, cert-past, cert-holds}
+use Rattle.event_queue.proofs.Options.{some-same}
+use Rattle.sorted_list.proofs.Rosters.{Fits, of-absent, well-apart, cert-past, cert-holds}
 use Rattle.sorted_list.proofs.Laws.{Each, rests-sorted, sorted-rests}
 use Rattle.sorted_list.proofs.Changes.{well-put, roster-put, roster-new, length-put, absent-without, roster-without, sorted-without, exchange, roster-exchange, same-certs}
 

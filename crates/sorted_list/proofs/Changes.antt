@@ -25,7 +25,8 @@ use Rattle.fairway.proofs.Sorting.{all-put, holds-put}
 use Rattle.fairway.proofs.Standings.{all-exchange}
 use Rattle.fairway.proofs.Advance.{loses-one}
 use Rattle.sorted_list.specs.Rosters.{well, course-of, certificate-at, without}
-use Rattle.sorted_list.proofs.Rosters.{Fits, none-some, some-same, found, of-found, absent, of-absent, cert-is, cert-past, well-ranged, well-apart, to-well}
+use Rattle.event_queue.proofs.Options.{none-some, some-same}
+use Rattle.sorted_list.proofs.Rosters.{Fits, found, of-found, absent, of-absent, cert-is, cert-past, well-ranged, well-apart, to-well}
 
 -- ---- an exchange
 sets : (xs : List Course) (i : ℕ) (r f : Course) → certificate-at xs i ≡ Some (r, f) → Exchange r f xs (set (set xs i f) (suc i) r)

@@ -21,7 +21,8 @@ use Rattle.fairway.proofs.Sorting.{self, back}
 use Rattle.fairway.proofs.Lists.{nobody}
 use Rattle.sorted_list.specs.Rosters.{course-of, well}
 use Rattle.sorted_list.specs.Ranks.{Next, Next-ahead, Next-behind}
-use Rattle.sorted_list.proofs.Rosters.{some-same, found, of-found, well-apart}
+use Rattle.event_queue.proofs.Options.{some-same}
+use Rattle.sorted_list.proofs.Rosters.{found, of-found, well-apart}
 use Rattle.sorted_list.proofs.Laws.{Each, rests-sorted}
 
 -- the place of each that the list holds

@@ -15,6 +15,7 @@ use Rattle.std.proofs.shelf.Signed.{ints}
 use Rattle.std.proofs.shelf.Tests.{and-parts, and-from, ltb-true, lt-ltb, eqb-true, eqb-false, eq-eqb, ne-eqb, not-true, not-from-false, cond-true, cond-false, cond-both, cases-bool, cases-eq}
 use Rattle.std.specs.declared.option.Option.{Option}
 use Rattle.std.specs.declared.option.Option.the-variants.{Some, None}
+use Rattle.event_queue.proofs.Options.{none-some, some-same}
 use Rattle.fairway.specs.declared.course.Course.{Course}
 use Rattle.fairway.specs.Times.{Time}
 use Rattle.fairway.specs.Courses.{In-range}
@@ -25,12 +26,6 @@ use Rattle.fairway.proofs.Sorting.{held}
 use Rattle.kinetic.specs.Limits.{out-of-range}
 use Rattle.kinetic.proofs.Tests.{within, of-range}
 use Rattle.sorted_list.specs.Rosters.{allowed, fresh, well, course-of, certificate-at, last-of, last-number, without}
-
-pub none-some : {A : Type 0} {x : A} → _≡_ {A = Option A} None (Some x) → ⊥
-none-some e = let z : _≡_ {A = ℕ} 0 1 = cc in omega arith
-
-pub some-same : {A : Type 0} {x y : A} → _≡_ {A = Option A} (Some x) (Some y) → x ≡ y
-some-same e = cc
 
 -- ---- within limits, apart
 -- within its limits, as the code keeps them

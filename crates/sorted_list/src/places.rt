@@ -4,12 +4,13 @@ ghost use Prim.Native.Nat.{ℕ, _+_, _≤_, _<_};
 ghost use lib.ListN.{length};
 ghost use Rattle.std.specs.shelf.Lists.{inserted};
 ghost use Rattle.fairway.specs.Stamps.{time-of};
-ghost use Rattle.fairway.specs.Orders.{put, slower-than};
+ghost use Rattle.fairway.specs.Orders.{put};
 ghost use Rattle.kinetic.specs.Numbers.{listed, among};
 ghost use Rattle.sorted_list.specs.Rosters.{Place-of};
 ghost use Rattle.sorted_list.specs.Loads.{faster-than, crossed};
 ghost use Rattle.sorted_list.specs.Ranks.{in-front};
 use fairway::course::Course;
+use fairway::order::count_slower;
 use fairway::stamp::Stamp;
 use kinetic::numbers::Numbers;
 
@@ -21,20 +22,6 @@ fn count_faster(courses: &[Course], front: Course) -> usize
     let mut count = 0;
     for rear in courses {
         if rear.is_faster(front) {
-            count += 1;
-        }
-    }
-    count
-}
-
-// How many of the courses are slower than a rear.
-fn count_slower(courses: &[Course], rear: Course) -> usize
-    ensures count { λ r. ⌜ r ≡ slower-than rear (now (courses .entry)) ⌝ }
-    ensures few { λ r. ⌜ r ≤ length (now (courses .entry)) ⌝ }
-{
-    let mut count = 0;
-    for front in courses {
-        if rear.is_faster(*front) {
             count += 1;
         }
     }

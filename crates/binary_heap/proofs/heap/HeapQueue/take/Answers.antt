@@ -16,7 +16,7 @@ use Rattle.binary_heap.proofs.Heaps.{keyed-others}
 use Rattle.binary_heap.proofs.Methods.{key-64, held-64, capacity-64, there-64}
 use borrow.Rule.Slice.Mut.{setVals}
 use Rattle.binary_heap.specs.declared.heap.BinaryHeap.{BinaryHeap}
-use Rattle.binary_heap.proofs.Seating.{some-none}
+use Rattle.event_queue.proofs.Options.{some-none}
 use Rattle.binary_heap.proofs.Parts.{carry-removed}
 use Rattle.binary_heap.proofs.heap.HeapQueue.take.Needs as need
 

@@ -9,7 +9,7 @@ use Rattle.pairing_heap.specs.Sound.{Sound}
 use Rattle.pairing_heap.proofs.Changes.{keyed-others}
 use Rattle.pairing_heap.proofs.Methods.{held-64, capacity-64, there-64}
 use Rattle.pairing_heap.proofs.Parts.{carry-removed}
-use Rattle.pairing_heap.proofs.Trees.{some-none}
+use Rattle.event_queue.proofs.Options.{some-none}
 use Rattle.pairing_heap.proofs.heap.PairingQueue.take.Needs as need
 
 pub returns-in-rest : need.returns-in-rest
