@@ -3,13 +3,13 @@ use Rattle.event_queue.proofs.Orders.{Total}
 use Rattle.binary_heap.specs.Slots.{columns, key_at}
 use Rattle.binary_heap.proofs.Sifts.{left_first, right_first}
 use Rattle.binary_heap.proofs.sift.first_child.Goals as goal
-use Rattle.binary_heap.proofs.sift.first_child.Goals.{else-right-size-via-then-right-size+else-is-sooner-at, else-right-size-via-else-right-size}
+use Rattle.binary_heap.proofs.sift.first_child.Goals.{else-right-size-via-then-right-size+else-is_sooner_at, else-right-size-via-else-right-size}
 
-pub returns-then-is-sooner-at : goal.returns-then-is-sooner-at
-returns-then-is-sooner-at g c =
-    right_first g.row.K-Key.before (record { asymmetric = g.met.K.Key.asymmetric; carries = g.met.K.Key.carries }) (key_at (columns c.args.cells.now)) c.args.size c.args.slot c.requires.some (omega arith) (sym c.if-is-sooner-at.ensures)
+pub returns-then-is_sooner_at : goal.returns-then-is_sooner_at
+returns-then-is_sooner_at g c =
+    right_first g.K.Key.before (record { asymmetric = g.met.K.Key.asymmetric; carries = g.met.K.Key.carries }) (key_at (columns c.args.cells.now)) c.args.size c.args.slot c.requires.some (omega arith) (sym c.if-is_sooner_at.ensures)
 
 pub returns-else-right-size : goal.returns-else-right-size
 returns-else-right-size g c =
-    left_first g.row.K-Key.before (record { asymmetric = g.met.K.Key.asymmetric; carries = g.met.K.Key.carries }) (key_at (columns c.args.cells.now)) c.args.size c.args.slot c.requires.some
-    (λ b. elim c.else-right-size.branch [ else-right-size-via-then-right-size+else-is-sooner-at w ↦ sym w.if-is-sooner-at.ensures | else-right-size-via-else-right-size w ↦ absurd (omega (arith, w.if-right-size.false)) ])
+    left_first g.K.Key.before (record { asymmetric = g.met.K.Key.asymmetric; carries = g.met.K.Key.carries }) (key_at (columns c.args.cells.now)) c.args.size c.args.slot c.requires.some
+    (λ b. elim c.else-right-size.branch [ else-right-size-via-then-right-size+else-is_sooner_at w ↦ sym w.if-is_sooner_at.ensures | else-right-size-via-else-right-size w ↦ absurd (omega (arith, w.if-right-size.false)) ])

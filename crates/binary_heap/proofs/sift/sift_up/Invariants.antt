@@ -6,8 +6,8 @@ use Rattle.binary_heap.proofs.sift.sift_up.Given as goal
 
 abbrev pub invariant-loop-at : goal.invariant-loop-at
 invariant-loop-at g l =
-    (n : ℕ) → l.slot < n → Linked (columns l.initial.cells) n → Upward g.row.K-Key.before (key_at (columns l.initial.cells)) n l.slot →
-    Rising g.row.K-Key.before (columns l.initial.cells) (columns l.cells) n l.at
+    (n : ℕ) → l.slot < n → Linked (columns l.initial.cells) n → Upward g.K.Key.before (key_at (columns l.initial.cells)) n l.slot →
+    Rising g.K.Key.before (columns l.initial.cells) (columns l.cells) n l.at
 
 abbrev pub decreases-loop-at : goal.decreases-loop-at
 decreases-loop-at g l = l.at

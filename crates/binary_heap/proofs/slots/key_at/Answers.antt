@@ -6,9 +6,9 @@ use Rattle.binary_heap.proofs.slots.key_at.Goals as goal
 pub returns-then-ticket-cells : goal.returns-then-ticket-cells
 unfolding key_at
 returns-then-ticket-cells g c =
-    sym (key_read c.args.cells.now c.ticket-at-ticket.result c.index-cells-ticket.result c.if-ticket-cells.true) ∙ ap (key_of (columns c.args.cells.now)) c.ticket-at-ticket.ensures
+    sym (key_read c.args.cells.now c.ticket_at-ticket.result c.index-cells-ticket.result c.if-ticket-cells.true) ∙ ap (key_of (columns c.args.cells.now)) c.ticket_at-ticket.ensures
 
 pub returns-else-ticket-cells : goal.returns-else-ticket-cells
 unfolding key_at
 returns-else-ticket-cells g c =
-    sym (key_past c.args.cells.now c.ticket-at-ticket.result c.if-ticket-cells.false) ∙ ap (key_of (columns c.args.cells.now)) c.ticket-at-ticket.ensures
+    sym (key_past c.args.cells.now c.ticket_at-ticket.result c.if-ticket-cells.false) ∙ ap (key_of (columns c.args.cells.now)) c.ticket_at-ticket.ensures

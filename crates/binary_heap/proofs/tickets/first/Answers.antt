@@ -12,7 +12,7 @@ pub returns-then-size-eq0 : goal.returns-then-size-eq0
 returns-then-size-eq0 g c =
     let xs = c.args.cells.now in
     record {
-      earliest = λ s. none_held g.row.K-Key.before (take 64 xs) c.args.size s
+      earliest = λ s. none_held g.K.Key.before (take 64 xs) c.args.size s
           (⊎_elim (λ z. omega arith) (λ w. omega (arith, w.1, s.linked.room, key_length (take 64 xs), length_64 xs)) c.then-size-eq0.either);
       same = refl;
     }
@@ -22,17 +22,17 @@ returns-then-ticket-ge64 g c =
     let xs = c.args.cells.now in
     record {
       earliest = λ s. absurd (⊎_elim
-          (λ h. omega (arith, h, first_cell g.row.K-Key.before xs c.args.size s (omega arith) c.index-cells-0.result))
-          (λ h. omega (arith, h.1, first_cell g.row.K-Key.before xs c.args.size s (omega arith) c.index-cells-0.result))
+          (λ h. omega (arith, h, first_cell g.K.Key.before xs c.args.size s (omega arith) c.index-cells-0.result))
+          (λ h. omega (arith, h.1, first_cell g.K.Key.before xs c.args.size s (omega arith) c.index-cells-0.result))
           c.then-ticket-ge64.either);
       same = refl;
     }
 
-pub returns-in-default : goal.returns-in-default
-returns-in-default g c =
+pub returns-in_default : goal.returns-in_default
+returns-in_default g c =
     let xs = c.args.cells.now in
     record {
-      earliest = λ s. absurd (first_some g.row.K-Key.before xs c.args.size s (omega arith) c.index-cells-0.result c.index-cells-ticket.result c.in-default.is);
+      earliest = λ s. absurd (first_some g.K.Key.before xs c.args.size s (omega arith) c.index-cells-0.result c.index-cells-ticket.result c.in_default.is);
       same = refl;
     }
 
@@ -43,6 +43,6 @@ returns g c =
     let e = ticket_64 xs 0 c.index-cells-0.result b in
     let held = key_64 xs _ c.index-cells-ticket.result (omega arith) ∙ c.in-Some.is in
     record {
-      earliest = λ s. (held, first_least g.row.K-Key.before (take 64 xs) c.args.size s (record { asymmetric = g.met.K.Key.asymmetric; carries = g.met.K.Key.carries }) c.in-Some.key (ap (key_of (columns (take 64 xs))) e ∙ held));
+      earliest = λ s. (held, first_least g.K.Key.before (take 64 xs) c.args.size s (record { asymmetric = g.met.K.Key.asymmetric; carries = g.met.K.Key.carries }) c.in-Some.key (ap (key_of (columns (take 64 xs))) e ∙ held));
       same = refl;
     }

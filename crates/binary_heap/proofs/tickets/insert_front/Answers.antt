@@ -10,7 +10,7 @@ pub returns-then-size-capacity : goal.returns-then-size-capacity
 returns-then-size-capacity g c =
     let xs = c.args.cells.now in
     record {
-      keyed = λ s h free. absurd (omega (arith, length_64 xs, room_left g.row.K-Key.before (take 64 xs) xs c.args.size c.args.ticket c.args.key s (omega (arith, length_64 xs)) free));
+      keyed = λ s h free. absurd (omega (arith, length_64 xs, room_left g.K.Key.before (take 64 xs) xs c.args.size c.args.ticket c.args.key s (omega (arith, length_64 xs)) free));
       past = refl;
     }
 
@@ -22,6 +22,6 @@ returns g c =
     let ek : k ≡ min (length xs) 64 = omega arith in
     let ey : length ys ≡ k = c.insert.auto.cells ∙ simp (length-take, length-drop) (omega arith) in
     record {
-      keyed = carry g.row.K-Key.before (take k (drop 0 xs)) (take 64 xs) ys _ c.args.size (c.args.size + 1) c.args.ticket c.args.key (front_part xs ys k ek ey) (front_take xs ys k ek ey) (length_64 xs) c.insert.ensures;
+      keyed = carry g.K.Key.before (take k (drop 0 xs)) (take 64 xs) ys _ c.args.size (c.args.size + 1) c.args.ticket c.args.key (front_part xs ys k ek ey) (front_take xs ys k ek ey) (length_64 xs) c.insert.ensures;
       past = front_drop xs ys k ek ey;
     }

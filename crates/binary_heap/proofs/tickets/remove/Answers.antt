@@ -9,8 +9,8 @@ returns-then-slot-last g c k s held =
     let cs = c.args.cells.now in
     let i = c.args.ticket in
     let u = columns c.seat.new.cells in
-    remove_sifted g.row.K-Key.before cs c.sift.new.cells c.args.size i k s held c.slot-of-slot.result c.ticket-at-moved.result c.slot-of-slot.ensures c.ticket-at-moved.ensures u
-    (written (columns cs) (columns c.set-key.new.cells) u i None c.slot-of-slot.result c.ticket-at-moved.result c.set-key.ensures c.seat.ensures)
+    remove_sifted g.K.Key.before cs c.sift.new.cells c.args.size i k s held c.slot_of-slot.result c.ticket_at-moved.result c.slot_of-slot.ensures c.ticket_at-moved.ensures u
+    (written (columns cs) (columns c.set_key.new.cells) u i None c.slot_of-slot.result c.ticket_at-moved.result c.set_key.ensures c.seat.ensures)
     (record { asymmetric = g.met.K.Key.asymmetric; carries = g.met.K.Key.carries }) c.if-slot-last.true c.sift.ensures
 
 pub returns-else-slot-last : goal.returns-else-slot-last
@@ -18,6 +18,6 @@ returns-else-slot-last g c k s held =
     let cs = c.args.cells.now in
     let i = c.args.ticket in
     let u = columns c.seat.new.cells in
-    remove_unsifted g.row.K-Key.before cs c.seat.new.cells c.args.size i k s held c.slot-of-slot.result c.ticket-at-moved.result c.slot-of-slot.ensures c.ticket-at-moved.ensures u
-    (written (columns cs) (columns c.set-key.new.cells) u i None c.slot-of-slot.result c.ticket-at-moved.result c.set-key.ensures c.seat.ensures)
+    remove_unsifted g.K.Key.before cs c.seat.new.cells c.args.size i k s held c.slot_of-slot.result c.ticket_at-moved.result c.slot_of-slot.ensures c.ticket_at-moved.ensures u
+    (written (columns cs) (columns c.set_key.new.cells) u i None c.slot_of-slot.result c.ticket_at-moved.result c.set_key.ensures c.seat.ensures)
     c.if-slot-last.false refl

@@ -12,7 +12,7 @@ returns-then-size-eq0 g c =
     let xs = c.args.cells.now in
     record {
       keyed = λ key s held. absurd (⊎_elim
-          (λ z. omega (arith, some_held g.row.K-Key.before (take 64 xs) xs c.args.size c.args.ticket key s held))
+          (λ z. omega (arith, some_held g.K.Key.before (take 64 xs) xs c.args.size c.args.ticket key s held))
           (λ w. omega (arith, w.1, s.linked.room, key_length (take 64 xs), length_64 xs))
           c.then-size-eq0.either);
       past = refl;
@@ -26,6 +26,6 @@ returns g c =
     let ek : k ≡ min (length xs) 64 = omega arith in
     let ey : length ys ≡ k = c.remove.auto.cells ∙ simp (length-take, length-drop) (omega arith) in
     record {
-      keyed = λ key. carry_removed g.row.K-Key.before (take k (drop 0 xs)) (take 64 xs) ys _ c.args.size (c.args.size - 1) c.args.ticket key (front_part xs ys k ek ey) (front_take xs ys k ek ey) (c.remove.ensures key);
+      keyed = λ key. carry_removed g.K.Key.before (take k (drop 0 xs)) (take 64 xs) ys _ c.args.size (c.args.size - 1) c.args.ticket key (front_part xs ys k ek ey) (front_take xs ys k ek ey) (c.remove.ensures key);
       past = front_drop xs ys k ek ey;
     }

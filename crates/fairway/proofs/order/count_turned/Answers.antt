@@ -6,7 +6,7 @@ use Rattle.fairway.specs.Orders.{turns, pair}
 use Rattle.fairway.specs.declared.course.Course.{Course}
 use Rattle.fairway.proofs.Lists.{nobody}
 use Rattle.fairway.proofs.order.count_turned.Goals as goal
-use Rattle.fairway.proofs.order.count_turned.Goals.{then-is-turned, else-is-turned}
+use Rattle.fairway.proofs.order.count_turned.Goals.{then-is_turned, else-is_turned}
 
 pub loop-front-preserved : goal.loop-front-preserved
 loop-front-preserved c =
@@ -14,12 +14,12 @@ loop-front-preserved c =
     let xs = c.args.courses.now in
     let i = c.loop-front.front-index in
     let h : i < length xs = c.loop-front-test.true in
-    elim c.if-is-turned.branch [
-      | then-is-turned w ↦
-          let m = count_by_more_yes p xs i nobody h (sym c.is-turned.ensures ∙ w.if-is-turned.true) in
+    elim c.if-is_turned.branch [
+      | then-is_turned w ↦
+          let m = count_by_more_yes p xs i nobody h (sym c.is_turned.ensures ∙ w.if-is_turned.true) in
           (w.count-is ∙ ap (λ n. n + 1) c.loop-front.invariant.0 ∙ sym m, omega (arith, w.count-is, c.loop-front.invariant.1))
-      | else-is-turned w ↦
-          let m = count_by_more_no p xs i nobody h (sym c.is-turned.ensures ∙ w.if-is-turned.false) in
+      | else-is_turned w ↦
+          let m = count_by_more_no p xs i nobody h (sym c.is_turned.ensures ∙ w.if-is_turned.false) in
           (w.count-is ∙ c.loop-front.invariant.0 ∙ sym m, omega (arith, w.count-is, c.loop-front.invariant.1))
     ]
 

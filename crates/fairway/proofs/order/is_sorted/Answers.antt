@@ -8,18 +8,18 @@ use Rattle.fairway.proofs.order.is_sorted.Goals as goal
 pub loop-place-init : goal.loop-place-init
 loop-place-init c = checked_none (InOrderAt (time_of c.args.at)) c.args.courses.now
 
-pub returns-then-not-is-behind : goal.returns-then-not-is-behind
-returns-then-not-is-behind c =
+pub returns-then-not-is_behind : goal.returns-then-not-is_behind
+returns-then-not-is_behind c =
     let xs = c.args.courses.now in
     let p = c.loop-place.place in
     let t = time_of c.args.at in
     sorted_no t (proper c.args.at) xs
-    (λ n. both_ways _ (sym c.is-behind.ensures ∙ c.if-not-is-behind.true) (at_pair (InOrderAt t) xs (p - 1) (get_or xs (p - 1) nobody) (get_or xs p nobody) n (pair_mid xs p nobody (omega arith) c.loop-place-test.true)))
+    (λ n. both_ways _ (sym c.is_behind.ensures ∙ c.if-not-is_behind.true) (at_pair (InOrderAt t) xs (p - 1) (get_or xs (p - 1) nobody) (get_or xs p nobody) n (pair_mid xs p nobody (omega arith) c.loop-place-test.true)))
 
 pub loop-place-preserved : goal.loop-place-preserved
 loop-place-preserved c =
     checked_more (InOrderAt (time_of c.args.at)) c.args.courses.now c.loop-place.place nobody (omega arith) c.loop-place-test.true c.loop-place.invariant
-    (sym c.is-behind.ensures ∙ c.if-not-is-behind.false)
+    (sym c.is_behind.ensures ∙ c.if-not-is_behind.false)
 
 pub returns : goal.returns
 returns c =

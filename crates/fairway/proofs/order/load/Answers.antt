@@ -5,28 +5,28 @@ use Rattle.fairway.proofs.Lists.{nobody, load_drop, rises, room}
 use Rattle.fairway.proofs.Loads.{load_le}
 use Rattle.fairway.proofs.order.load.Goals as goal
 
-few : (c : goal.After-count-slower) → c.count-slower.result ≤ length c.args.courses.now
+few : (c : goal.After-count_slower) → c.count_slower.result ≤ length c.args.courses.now
 few c =
     let xs = c.args.courses.now in
     let p = c.loop-place.place in
-    omega (arith, c.count-slower.ensures.few, length-take (length xs - (p + 1)) (drop (p + 1) xs))
+    omega (arith, c.count_slower.ensures.few, length-take (length xs - (p + 1)) (drop (p + 1) xs))
 
 pub loop-place-init : goal.loop-place-init
 loop-place-init c = (omega arith, omega arith)
 
-pub overflow-add-total : goal.overflow-add-total
-overflow-add-total c =
+pub overflow_add-total : goal.overflow_add-total
+overflow_add-total c =
     let xs = c.args.courses.now in
     let n : length xs < 2 ^ 64 = search rules in
-    record { fits = room c.loop-place.place (length xs) c.loop-place.total c.count-slower.result c.loop-place-test.true n c.loop-place.invariant.1 (few c) }
+    record { fits = room c.loop-place.place (length xs) c.loop-place.total c.count_slower.result c.loop-place-test.true n c.loop-place.invariant.1 (few c) }
 
 pub loop-place-preserved : goal.loop-place-preserved
 loop-place-preserved c =
     let xs = c.args.courses.now in
     let p = c.loop-place.place in
     let x = get_or xs p nobody in
-    let e : c.count-slower.result ≡ slower_than x (drop (p + 1) xs) = c.count-slower.ensures.count ∙ ap (slower_than x) (take_rest xs (p + 1)) in
-    (omega (arith, c.loop-place.invariant.0, e, load_drop xs p nobody c.loop-place-test.true), rises p (length xs) c.loop-place.total c.count-slower.result c.loop-place.invariant.1 (few c))
+    let e : c.count_slower.result ≡ slower_than x (drop (p + 1) xs) = c.count_slower.ensures.count ∙ ap (slower_than x) (take_rest xs (p + 1)) in
+    (omega (arith, c.loop-place.invariant.0, e, load_drop xs p nobody c.loop-place-test.true), rises p (length xs) c.loop-place.total c.count_slower.result c.loop-place.invariant.1 (few c))
 
 pub returns : goal.returns
 returns c =

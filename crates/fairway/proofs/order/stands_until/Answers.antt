@@ -8,18 +8,18 @@ use Rattle.fairway.proofs.order.stands_until.Goals as goal
 pub loop-place-init : goal.loop-place-init
 loop-place-init c = checked_none (NotLevelBefore (time_of c.args.at)) c.args.courses.now
 
-pub returns-then-is-past : goal.returns-then-is-past
-returns-then-is-past c =
+pub returns-then-is_past : goal.returns-then-is_past
+returns-then-is_past c =
     let xs = c.args.courses.now in
     let p = c.loop-place.place in
     let t = time_of c.args.at in
     until_no t xs
-    (λ n. c.is-past.ensures.1 c.if-is-past.true (at_pair (NotLevelBefore t) xs (p - 1) (get_or xs (p - 1) nobody) (get_or xs p nobody) n (pair_mid xs p nobody (omega arith) c.loop-place-test.true)))
+    (λ n. c.is_past.ensures.1 c.if-is_past.true (at_pair (NotLevelBefore t) xs (p - 1) (get_or xs (p - 1) nobody) (get_or xs p nobody) n (pair_mid xs p nobody (omega arith) c.loop-place-test.true)))
 
 pub loop-place-preserved : goal.loop-place-preserved
 loop-place-preserved c =
     checked_more (NotLevelBefore (time_of c.args.at)) c.args.courses.now c.loop-place.place nobody (omega arith) c.loop-place-test.true c.loop-place.invariant
-    (c.is-past.ensures.0 c.if-is-past.false)
+    (c.is_past.ensures.0 c.if-is_past.false)
 
 pub returns : goal.returns
 returns c =

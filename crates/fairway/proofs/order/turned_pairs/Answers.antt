@@ -11,19 +11,19 @@ use Rattle.fairway.proofs.order.turned_pairs.Goals as goal
 pub loop-place-init : goal.loop-place-init
 loop-place-init c = (refl, omega arith)
 
-pub overflow-add-total : goal.overflow-add-total
-overflow-add-total c =
+pub overflow_add-total : goal.overflow_add-total
+overflow_add-total c =
     let xs = c.args.courses.now in
     let n : length xs < 2 ^ 64 = search rules in
-    record { fits = room c.loop-place.place (length xs) c.loop-place.total c.count-turned.result c.loop-place-test.true n c.loop-place.invariant.1 c.count-turned.ensures.few }
+    record { fits = room c.loop-place.place (length xs) c.loop-place.total c.count_turned.result c.loop-place-test.true n c.loop-place.invariant.1 c.count_turned.ensures.few }
 
 pub loop-place-preserved : goal.loop-place-preserved
 loop-place-preserved c =
     let xs = c.args.courses.now in
     let p = c.loop-place.place in
     let f : Course → ℕ = λ x. turned_by (time_of c.args.from) (time_of c.args.to) x xs in (
-      omega (arith, c.loop-place.invariant.0, c.count-turned.ensures.count, sum_by_more f xs p nobody c.loop-place-test.true),
-      rises p (length xs) c.loop-place.total c.count-turned.result c.loop-place.invariant.1 c.count-turned.ensures.few,
+      omega (arith, c.loop-place.invariant.0, c.count_turned.ensures.count, sum_by_more f xs p nobody c.loop-place-test.true),
+      rises p (length xs) c.loop-place.total c.count_turned.result c.loop-place.invariant.1 c.count_turned.ensures.few,
     )
 
 pub returns : goal.returns

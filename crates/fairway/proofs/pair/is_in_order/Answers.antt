@@ -6,7 +6,7 @@ use Rattle.fairway.proofs.pair.is_in_order.Goals as goal
 pub returns : goal.returns
 returns c =
     record {
-      value = c.is-behind.ensures;
-      meaning = told_behind (time_of c.args.at) c.args.rear c.args.front c.is-behind.result c.is-behind.ensures;
+      value = c.is_behind.ensures;
+      meaning = told_behind (time_of c.args.at) c.args.rear c.args.front c.is_behind.result c.is_behind.ensures;
       laws = laws;
     }

@@ -11,6 +11,6 @@ returns g c =
     let ek : k ≡ min (length xs) 64 = omega arith in
     let ey : length ys ≡ k = c.insert.auto.cells ∙ simp (length-take, length-drop) (omega arith) in
     record {
-      keyed = λ size. carry g.row.K-Key.before (take k (drop 0 xs)) (take 64 xs) ys _ c.args.root c.insert.result size (size + 1) c.args.ticket c.args.key (front_part xs ys k ek ey) (front_take xs ys k ek ey) (length_64 xs) (c.insert.ensures size);
+      keyed = λ size. carry g.K.Key.before (take k (drop 0 xs)) (take 64 xs) ys _ c.args.root c.insert.result size (size + 1) c.args.ticket c.args.key (front_part xs ys k ek ey) (front_take xs ys k ek ey) (length_64 xs) (c.insert.ensures size);
       past = front_drop xs ys k ek ey;
     }

@@ -11,6 +11,6 @@ returns g c =
     let ek : k ≡ min (length xs) 64 = omega arith in
     let ey : length ys ≡ k = c.remove.auto.cells ∙ simp (length-take, length-drop) (omega arith) in
     record {
-      keyed = λ size key. carry_removed g.row.K-Key.before (take k (drop 0 xs)) (take 64 xs) ys _ c.args.root c.remove.result size (size - 1) c.args.ticket key (front_part xs ys k ek ey) (front_take xs ys k ek ey) (c.remove.ensures size key);
+      keyed = λ size key. carry_removed g.K.Key.before (take k (drop 0 xs)) (take 64 xs) ys _ c.args.root c.remove.result size (size - 1) c.args.ticket key (front_part xs ys k ek ey) (front_take xs ys k ek ey) (c.remove.ensures size key);
       past = front_drop xs ys k ek ey;
     }

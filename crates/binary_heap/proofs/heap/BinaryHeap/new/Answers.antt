@@ -4,11 +4,11 @@ use Rattle.binary_heap.proofs.heap.BinaryHeap.new.Goals as goal
 
 pub returns : goal.returns
 returns g c =
-    let ys = c.clear-front.new.cells in
-    let none = c.clear-front.ensures.empty in
+    let ys = c.clear_front.new.cells in
+    let none = c.clear_front.ensures.empty in
     record {
-      empty = record { sound = empty_sound g.row.K-Key.before (take 64 ys) none; none = none };
-      capacity = omega (arith, c.clear-front.auto.cells);
+      empty = record { sound = empty_sound g.K.Key.before (take 64 ys) none; none = none };
+      capacity = omega (arith, c.clear_front.auto.cells);
       lender = refl;
-      past = c.clear-front.ensures.past;
+      past = c.clear_front.ensures.past;
     }

@@ -13,21 +13,21 @@ use Rattle.event_queue.proofs.Options.{some_none}
 use Rattle.binary_heap.proofs.Parts.{carry_removed}
 use Rattle.binary_heap.proofs.heap.BinaryHeapQueue.take.Goals as goal
 
-pub returns-in-default : goal.returns-in-default
-returns-in-default g c =
+pub returns-in_default : goal.returns-in_default
+returns-in_default g c =
     let same = c.first.ensures.same in
     record {
-      after = (ap (λ xs. record { cells = set_vals xs c.args.self.now.cells; size = c.args.self.now.size }) same, λ s i k h. absurd (some_none _ k h (c.in-default.ensures.earliest s i)));
+      after = (ap (λ xs. record { cells = set_vals xs c.args.self.now.cells; size = c.args.self.now.size }) same, λ s i k h. absurd (some_none _ k h (c.in_default.ensures.earliest s i)));
       keeps = (refl, ap (drop 64) same);
     }
 
-pub returns-then-is-before : goal.returns-then-is-before
-returns-then-is-before g c =
+pub returns-then-is_before : goal.returns-then-is_before
+returns-then-is_before g c =
     let same = c.first.ensures.same in
     record {
       after = (
         ap (λ xs. record { cells = set_vals xs c.args.self.now.cells; size = c.args.self.now.size }) same,
-        λ s i k h. all_later g.row.K-Key.before (record { asymmetric = g.met.K.Key.asymmetric; carries = g.met.K.Key.carries }) c.args.limit c.in-Some.first.1 k (sym c.if-is-before.ensures) ((c.in-Some.ensures.earliest s).1 i k h),
+        λ s i k h. all_later g.K.Key.before (record { asymmetric = g.met.K.Key.asymmetric; carries = g.met.K.Key.carries }) c.args.limit c.in-Some.first.1 k (sym c.if-is_before.ensures) ((c.in-Some.ensures.earliest s).1 i k h),
       );
       keeps = (refl, ap (drop 64) same);
     }
@@ -35,21 +35,21 @@ returns-then-is-before g c =
 pub returns : goal.returns
 returns g c =
     let xs = c.args.self.now.cells.now in
-    let zs = c.remove-front-self.new.cells in
+    let zs = c.remove_front-self.new.cells in
     let n = c.in-Some.first.0 in
     let key = c.in-Some.first.1 in
-    let o = g.row.K-Key.before in
-    let r = c.remove-front-self.result in
+    let o = g.K.Key.before in
+    let r = c.remove_front-self.result in
     let same = c.first.ensures.same in
     record {
       after = λ s.
           let first = c.in-Some.ensures.earliest s in
-          let k = carry_removed o (take 64 c.first.new.cells) (take 64 xs) (take 64 zs) (take 64 zs) c.args.self.now.size r n key (ap (take 64) same) refl (c.remove-front-self.ensures.keyed key) s first.0 in
+          let k = carry_removed o (take 64 c.first.new.cells) (take 64 xs) (take 64 zs) (take 64 zs) c.args.self.now.size r n key (ap (take 64) same) refl (c.remove_front-self.ensures.keyed key) s first.0 in
           record {
             was_held = first.0;
-            not_after = sym c.if-is-before.ensures;
+            not_after = sym c.if-is_before.ensures;
             none_before = first.1;
             after = record { sound = k.sound; capacity = capacity_64 xs o zs r n None k; there = there_64 xs o zs r n None k (held_64 xs n key first.0); others = keyed_others (take 64 xs) (take 64 zs) n None k.keys };
           };
-      keeps = (refl, c.remove-front-self.ensures.past ∙ ap (drop 64) same);
+      keeps = (refl, c.remove_front-self.ensures.past ∙ ap (drop 64) same);
     }

@@ -13,12 +13,12 @@ returns-in-Ok g c =
     let q' = c.drop.new.self in
     let line = c.args.line in
     let old = c.in-Ok.old in
-    let there = c.is-some.result in
+    let there = c.is_some.result in
     let dropped = c.in-Ok.ensures.after in
     let done : Hears m q q' line (Ok there) =
     λ s. (
       accepted_below NoSuchLine (m.capacity q) line [] (dropped_below m q q' line old dropped s),
-      c.is-some.ensures ∙ ap is_some (sym (dropped_held m q q' line old dropped s)),
+      c.is_some.ensures ∙ ap is_some (sym (dropped_held m q q' line old dropped s)),
       dropped_only m q q' line (Ok old) dropped s,
     ) in
     record {

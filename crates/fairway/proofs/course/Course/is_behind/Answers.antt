@@ -41,41 +41,41 @@ tested p q x y u w b h i j k l = cc
 pub returns-then-own-others : goal.returns-then-own-others
 returns-then-own-others c =
     let t = c.args.at in let u = c.args.self in let w = c.args.other in
-    let P : to_z w128 (of_z w128 c.position-at-own.result) ≡ c.position-at-own.result = search rules in
-    let Q : to_z w128 (of_z w128 c.position-at-others.result) ≡ c.position-at-others.result = search rules in
-    let A = tested _ _ (place (time_of t) u) (place (time_of t) w) _ _ true c.if-own-others.true P Q c.position-at-own.ensures c.position-at-others.ensures in
+    let P : to_z w128 (of_z w128 c.position_at-own.result) ≡ c.position_at-own.result = search rules in
+    let Q : to_z w128 (of_z w128 c.position_at-others.result) ≡ c.position_at-others.result = search rules in
+    let A = tested _ _ (place (time_of t) u) (place (time_of t) w) _ _ true c.if-own-others.true P Q c.position_at-own.ensures c.position_at-others.ensures in
     sym (five_is t u w ∙ one _ _ _ _ _ A)
 
 pub returns-then-others-own : goal.returns-then-others-own
 returns-then-others-own c =
     let t = c.args.at in let u = c.args.self in let w = c.args.other in
-    let P : to_z w128 (of_z w128 c.position-at-own.result) ≡ c.position-at-own.result = search rules in
-    let Q : to_z w128 (of_z w128 c.position-at-others.result) ≡ c.position-at-others.result = search rules in
-    let A = tested _ _ (place (time_of t) u) (place (time_of t) w) _ _ false c.if-own-others.false P Q c.position-at-own.ensures c.position-at-others.ensures in
-    let B = tested _ _ (place (time_of t) w) (place (time_of t) u) _ _ true c.if-others-own.true Q P c.position-at-others.ensures c.position-at-own.ensures in
+    let P : to_z w128 (of_z w128 c.position_at-own.result) ≡ c.position_at-own.result = search rules in
+    let Q : to_z w128 (of_z w128 c.position_at-others.result) ≡ c.position_at-others.result = search rules in
+    let A = tested _ _ (place (time_of t) u) (place (time_of t) w) _ _ false c.if-own-others.false P Q c.position_at-own.ensures c.position_at-others.ensures in
+    let B = tested _ _ (place (time_of t) w) (place (time_of t) u) _ _ true c.if-others-own.true Q P c.position_at-others.ensures c.position_at-own.ensures in
     sym (five_is t u w ∙ two _ _ _ _ _ A B)
 
 pub returns-then-self-other : goal.returns-then-self-other
 returns-then-self-other c =
     let t = c.args.at in let u = c.args.self in let w = c.args.other in
-    let P : to_z w128 (of_z w128 c.position-at-own.result) ≡ c.position-at-own.result = search rules in
-    let Q : to_z w128 (of_z w128 c.position-at-others.result) ≡ c.position-at-others.result = search rules in
+    let P : to_z w128 (of_z w128 c.position_at-own.result) ≡ c.position_at-own.result = search rules in
+    let Q : to_z w128 (of_z w128 c.position_at-others.result) ≡ c.position_at-others.result = search rules in
     let U : to_z w16 (of_z w16 u.speed) ≡ u.speed = search rules in
     let W : to_z w16 (of_z w16 w.speed) ≡ w.speed = search rules in
-    let A = tested _ _ (place (time_of t) u) (place (time_of t) w) _ _ false c.if-own-others.false P Q c.position-at-own.ensures c.position-at-others.ensures in
-    let B = tested _ _ (place (time_of t) w) (place (time_of t) u) _ _ false c.if-others-own.false Q P c.position-at-others.ensures c.position-at-own.ensures in
+    let A = tested _ _ (place (time_of t) u) (place (time_of t) w) _ _ false c.if-own-others.false P Q c.position_at-own.ensures c.position_at-others.ensures in
+    let B = tested _ _ (place (time_of t) w) (place (time_of t) u) _ _ false c.if-others-own.false Q P c.position_at-others.ensures c.position_at-own.ensures in
     let C = tested _ _ u.speed w.speed _ _ true c.if-self-other.true U W refl refl in
     sym (five_is t u w ∙ three _ _ _ _ _ A B C)
 
 pub returns-then-other-self : goal.returns-then-other-self
 returns-then-other-self c =
     let t = c.args.at in let u = c.args.self in let w = c.args.other in
-    let P : to_z w128 (of_z w128 c.position-at-own.result) ≡ c.position-at-own.result = search rules in
-    let Q : to_z w128 (of_z w128 c.position-at-others.result) ≡ c.position-at-others.result = search rules in
+    let P : to_z w128 (of_z w128 c.position_at-own.result) ≡ c.position_at-own.result = search rules in
+    let Q : to_z w128 (of_z w128 c.position_at-others.result) ≡ c.position_at-others.result = search rules in
     let U : to_z w16 (of_z w16 u.speed) ≡ u.speed = search rules in
     let W : to_z w16 (of_z w16 w.speed) ≡ w.speed = search rules in
-    let A = tested _ _ (place (time_of t) u) (place (time_of t) w) _ _ false c.if-own-others.false P Q c.position-at-own.ensures c.position-at-others.ensures in
-    let B = tested _ _ (place (time_of t) w) (place (time_of t) u) _ _ false c.if-others-own.false Q P c.position-at-others.ensures c.position-at-own.ensures in
+    let A = tested _ _ (place (time_of t) u) (place (time_of t) w) _ _ false c.if-own-others.false P Q c.position_at-own.ensures c.position_at-others.ensures in
+    let B = tested _ _ (place (time_of t) w) (place (time_of t) u) _ _ false c.if-others-own.false Q P c.position_at-others.ensures c.position_at-own.ensures in
     let C = tested _ _ u.speed w.speed _ _ false c.if-self-other.false U W refl refl in
     let D = tested _ _ w.speed u.speed _ _ true c.if-other-self.true W U refl refl in
     sym (five_is t u w ∙ four _ _ _ _ _ A B C D)
@@ -83,12 +83,12 @@ returns-then-other-self c =
 pub returns : goal.returns
 returns c =
     let t = c.args.at in let u = c.args.self in let w = c.args.other in
-    let P : to_z w128 (of_z w128 c.position-at-own.result) ≡ c.position-at-own.result = search rules in
-    let Q : to_z w128 (of_z w128 c.position-at-others.result) ≡ c.position-at-others.result = search rules in
+    let P : to_z w128 (of_z w128 c.position_at-own.result) ≡ c.position_at-own.result = search rules in
+    let Q : to_z w128 (of_z w128 c.position_at-others.result) ≡ c.position_at-others.result = search rules in
     let U : to_z w16 (of_z w16 u.speed) ≡ u.speed = search rules in
     let W : to_z w16 (of_z w16 w.speed) ≡ w.speed = search rules in
-    let A = tested _ _ (place (time_of t) u) (place (time_of t) w) _ _ false c.if-own-others.false P Q c.position-at-own.ensures c.position-at-others.ensures in
-    let B = tested _ _ (place (time_of t) w) (place (time_of t) u) _ _ false c.if-others-own.false Q P c.position-at-others.ensures c.position-at-own.ensures in
+    let A = tested _ _ (place (time_of t) u) (place (time_of t) w) _ _ false c.if-own-others.false P Q c.position_at-own.ensures c.position_at-others.ensures in
+    let B = tested _ _ (place (time_of t) w) (place (time_of t) u) _ _ false c.if-others-own.false Q P c.position_at-others.ensures c.position_at-own.ensures in
     let C = tested _ _ u.speed w.speed _ _ false c.if-self-other.false U W refl refl in
     let D = tested _ _ w.speed u.speed _ _ false c.if-other-self.false W U refl refl in
     sym (five_is t u w ∙ last _ _ _ _ _ A B C D)

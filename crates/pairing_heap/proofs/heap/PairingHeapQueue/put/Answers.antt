@@ -22,24 +22,24 @@ returns-in-Some g c =
 pub returns : goal.returns
 returns g c =
     let xs = c.args.self.now.cells.now in
-    let zs = c.insert-front-self.new.cells in
+    let zs = c.insert_front-self.new.cells in
     let n = c.args.ticket in
-    let o = g.row.K-Key.before in
+    let o = g.K.Key.before in
     let size = c.args.self.now.size in
     let b : n < min (length xs) 64 = omega arith in
-    let free = key_64 xs n c.index-self-ticket.result b ∙ c.in-default.is in
+    let free = key_64 xs n c.index-self-ticket.result b ∙ c.in_default.is in
     let v = Some c.args.key in
-    let r = c.insert-front-self.result in
+    let r = c.insert_front-self.result in
     record {
       after = λ s.
-          let k = c.insert-front-self.ensures.keyed size s b free in (
+          let k = c.insert_front-self.ensures.keyed size s b free in (
             put_accepted (heap_meaning o) c.args.self.now n b free,
             record {
-              sound = subst (λ m. Sound o (take 64 zs) r m) (one_more xs o c.args.self.now.root size _ s c.saturating-add-self.ensures) k.sound;
+              sound = subst (λ m. Sound o (take 64 zs) r m) (one_more xs o c.args.self.now.root size _ s c.saturating_add-self.ensures) k.sound;
               capacity = capacity_64 xs o zs r (size + 1) n v k;
               there = there_64 xs o zs r (size + 1) n v k b;
               others = keyed_others (take 64 xs) (take 64 zs) n v k.keys;
             },
           );
-      keeps = (refl, c.insert-front-self.ensures.past);
+      keeps = (refl, c.insert_front-self.ensures.past);
     }

@@ -7,4 +7,4 @@ use Rattle.pairing_heap.proofs.heap.PairingHeapQueue.size.Goals as goal
 pub returns : goal.returns
 returns g c =
     let q = c.args.self.now in
-    record { value = λ s. sound_count g.row.K-Key.before (take 64 q.cells.now) q.root q.size s ∙ ap (count_below _) (length_64 q.cells.now); same = refl }
+    record { value = λ s. sound_count g.K.Key.before (take 64 q.cells.now) q.root q.size s ∙ ap (count_below _) (length_64 q.cells.now); same = refl }
