@@ -6,10 +6,10 @@ use Rattle.kinetic.proofs.settle.settle.Goals as goal
 pub loop-mends-init : goal.loop-mends-init
 loop-mends-init g c = midway_none g.S.Structure.means (time_of c.args.at) c.args.structure.now
 
-pub returns-in-default : goal.returns-in-default
-returns-in-default g c =
+pub returns-in_default : goal.returns-in_default
+returns-in_default g c =
     let laws = g.met.S.Structure in
-    settled g.S.Structure.means laws.leads (time_of c.args.at) c.args.structure.now c.loop-mends.structure c.loop-mends.mends c.foremost.result c.foremost.ensures c.loop-mends.invariant c.in-default.ensures
+    settled g.S.Structure.means laws.leads (time_of c.args.at) c.args.structure.now c.loop-mends.structure c.loop-mends.mends c.foremost.result c.foremost.ensures c.loop-mends.invariant c.in_default.ensures
 
 pub loop-mends-preserved : goal.loop-mends-preserved
 loop-mends-preserved g c =
