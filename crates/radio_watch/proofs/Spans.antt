@@ -1,7 +1,7 @@
 -- A text's first line and first word, cut off where their lengths say.
 use Rattle.std.proofs.Common.{◌≡◌, ℕ, suc, ◌+◌, ◌-◌, ◌<◌, ◌≤◌, Bool, true, false, cond, not, eqb, List, [], ◌∷◌, length, get_or, take, drop, sym, refl, ap, ◌∙◌, arith}
 use Rattle.std.proofs.lemmas.List.{at_drop_more, at_drop_all, drop_all, take_all, take_rest}
-use Rattle.std.proofs.lemmas.Bool.{not_true}
+use Rattle.std.proofs.lemmas.Bool.{not-true}
 use Rattle.radio_watch.specs.Script.{onto_first, lines, blank, at_word, words}
 use Rattle.radio_watch.specs.Spans.{before, no_blank, line_length, blank_length, word_length}
 
@@ -97,7 +97,7 @@ words_cut b (c ∷ cs) h = cut_one b c cs (blank c) h refl (words_cut c cs)
 
 cut_at : (t : List ℕ) → at_word t ≡ true → words t ≡ take (word_length t) t ∷ words (drop (word_length t) t)
 cut_at [] h = absurd (let z : ◌≡◌ {A = ℕ} 0 1 = cc in omega arith)
-cut_at (b ∷ bs) h = words_cut b bs (not_true (blank b) h)
+cut_at (b ∷ bs) h = words_cut b bs (not-true (blank b) h)
 
 pub no_word : (s : List ℕ) → length s ≤ blank_length s → words s ≡ []
 no_word s h = words_skip s ∙ ap words (drop_all (blank_length s) s h)

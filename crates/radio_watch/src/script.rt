@@ -99,11 +99,11 @@ fn two_words(name: &[u8], argument: &[u8]) -> Reading
     let Some(n) = decimal(argument) else {
         return Reading::Unknown;
     };
-    if name == b"heard" {
+    if name == b"heard".as_slice() {
         Reading::Asks {
             call: Call::Heard { line: n as usize },
         }
-    } else if name == b"overdue" {
+    } else if name == b"overdue".as_slice() {
         Reading::Asks {
             call: Call::Overdue { second: n },
         }
@@ -119,7 +119,7 @@ fn three_words(name: &[u8], line: &[u8], second: &[u8]) -> Reading
     let (Some(line), Some(second)) = (decimal(line), decimal(second)) else {
         return Reading::Unknown;
     };
-    if name == b"await" {
+    if name == b"await".as_slice() {
         Reading::Asks {
             call: Call::Await {
                 line: line as usize,

@@ -5,7 +5,7 @@ use Rattle.std.specs.Int.Signed.{lt_z}
 use Rattle.std.specs.List.{AllByRecursion as All}
 use Rattle.std.proofs.ByRecursion.{All-weaker}
 use Rattle.std.proofs.lemmas.Int.{ints}
-use Rattle.std.proofs.lemmas.Bool.{and_parts, and_from, ltb-true, lt-ltb, eqb-true, eqb-false, eq-eqb, ne_eqb, not_true, not_from_false, cond-true, cond-false, cond_both, cases_Bool, cases_eq}
+use Rattle.std.proofs.lemmas.Bool.{and_parts, and_from, ltb-true, lt-ltb, eqb-true, eqb-false, eq-eqb, ne_eqb, not-true, not_from_false, cond-true, cond-false, cond_both, cases_Bool, cases_eq}
 use Rattle.event_queue.proofs.Options.{none_some, some_same}
 use Rattle.fairway.specs.declared.course.Course.{Course}
 use Rattle.fairway.specs.Times.{Time}
@@ -29,7 +29,7 @@ to_fits c e =
     let a = and_parts (nat_lt 0 c.number) (nat_lt c.number 65536 && not (out_of_range c)) e in
     let b = and_parts (nat_lt c.number 65536) (not (out_of_range c)) a.1 in
     record {
-      in_range = within c (not_true (out_of_range c) b.1) (ltb-true 0 c.number a.0);
+      in_range = within c (not-true (out_of_range c) b.1) (ltb-true 0 c.number a.0);
       number = ltb-true c.number 65536 b.0;
     }
 
@@ -42,7 +42,7 @@ pub fresh_all : (n : ℕ) (xs : List Course) → fresh n xs ≡ true → All (λ
 fresh_all n [] e = tt
 fresh_all n (y ∷ ys) e =
     let a = and_parts (not (y.number == n)) (fresh n ys) e in
-    (λ q. eqb-false y.number n (not_true (y.number == n) a.0) (sym q), fresh_all n ys a.1)
+    (λ q. eqb-false y.number n (not-true (y.number == n) a.0) (sym q), fresh_all n ys a.1)
 
 pub all_fresh : (n : ℕ) (xs : List Course) → All (λ y. n ≢ y.number) xs → fresh n xs ≡ true
 all_fresh n [] h = refl

@@ -10,7 +10,7 @@ loop-item-preserved g c =
     let m = g.Q.Queue.means in
     let xs = vec_items c.loop-item.journal in
     let e = c.answer-entry.result in
-    let items = c.push-reserved.ensures.items in
+    let items = c.push_reserved.ensures.items in
     let i = c.loop-item.item-index in (
       omega arith,
       omega arith,

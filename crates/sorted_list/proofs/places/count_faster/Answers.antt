@@ -5,7 +5,7 @@ use Rattle.fairway.specs.Courses.{faster}
 use Rattle.fairway.specs.declared.course.Course.{Course}
 use Rattle.fairway.proofs.Lists.{nobody}
 use Rattle.sorted_list.proofs.places.count_faster.Goals as goal
-use Rattle.sorted_list.proofs.places.count_faster.Goals.{then-is-faster, else-is-faster}
+use Rattle.sorted_list.proofs.places.count_faster.Goals.{then-is_faster, else-is_faster}
 
 pub loop-rear-preserved : goal.loop-rear-preserved
 loop-rear-preserved c =
@@ -13,12 +13,12 @@ loop-rear-preserved c =
     let xs = c.args.courses.now in
     let i = c.loop-rear.rear-index in
     let h : i < length xs = c.loop-rear-test.true in
-    elim c.if-is-faster.branch [
-      | then-is-faster w ↦
-          let m = count_by_more_yes p xs i nobody h (sym c.is-faster.ensures ∙ w.if-is-faster.true) in
+    elim c.if-is_faster.branch [
+      | then-is_faster w ↦
+          let m = count_by_more_yes p xs i nobody h (sym c.is_faster.ensures ∙ w.if-is_faster.true) in
           (w.count-is ∙ ap (λ n. n + 1) c.loop-rear.invariant.0 ∙ sym m, omega (arith, w.count-is, c.loop-rear.invariant.1))
-      | else-is-faster w ↦
-          let m = count_by_more_no p xs i nobody h (sym c.is-faster.ensures ∙ w.if-is-faster.false) in
+      | else-is_faster w ↦
+          let m = count_by_more_no p xs i nobody h (sym c.is_faster.ensures ∙ w.if-is_faster.false) in
           (w.count-is ∙ c.loop-rear.invariant.0 ∙ sym m, omega (arith, w.count-is, c.loop-rear.invariant.1))
     ]
 

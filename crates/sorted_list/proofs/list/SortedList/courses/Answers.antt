@@ -9,7 +9,7 @@ pub returns : goal.returns
 returns c =
     let s = c.args.self.now in
     let xs = s.courses.items in
-    subst (InOrder s) (sym c.as-slice.ensures.value)
+    subst (InOrder s) (sym c.as_slice.ensures.value)
     (record {
       value = refl;
       apart = well_apart xs s.sound;

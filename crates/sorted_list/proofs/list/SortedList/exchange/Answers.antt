@@ -2,12 +2,12 @@ use Rattle.std.proofs.Common.{ℕ, suc, ◌+◌, ◌-◌, ◌<◌, ◌≤◌, le
 use Rattle.sorted_list.proofs.Changes.{passed}
 use Rattle.sorted_list.proofs.list.SortedList.exchange.Goals as goal
 
-pub overflow-sub-self : goal.overflow-sub-self
-overflow-sub-self c =
+pub overflow_sub-self : goal.overflow_sub-self
+overflow_sub-self c =
     let p = passed c.args.self.now.courses.items c.swap.new.self.items c.args.place (omega arith) c.swap.ensures.items c.requires.faster c.args.self.now.sound in
     omega (arith, p.1)
 
-pub invariant-of-self : goal.invariant-of-self
-invariant-of-self c =
+pub invariant_of-self : goal.invariant_of-self
+invariant_of-self c =
     let p = passed c.args.self.now.courses.items c.swap.new.self.items c.args.place (omega arith) c.swap.ensures.items c.requires.faster c.args.self.now.sound in
-    (omega arith, (omega arith, (p.0, (omega (arith, p.1), tt))))
+    record { few = omega arith; room = omega arith; sound = p.0; counted = omega (arith, p.1) }

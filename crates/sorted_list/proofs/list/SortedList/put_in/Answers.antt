@@ -10,8 +10,8 @@ use Rattle.sorted_list.specs.LoadsLemmas.{load_inserted, load_bounded}
 use Rattle.sorted_list.proofs.Changes.{well_put}
 use Rattle.sorted_list.proofs.list.SortedList.put_in.Goals as goal
 
-pub overflow-add-self : goal.overflow-add-self
-overflow-add-self c =
+pub overflow_add-self : goal.overflow_add-self
+overflow_add-self c =
     let few = c.args.self.now.few in
     let k = c.args.self.now.counted in
     let m = c.crossings-more.ensures.few in
@@ -22,29 +22,26 @@ overflow-add-self c =
 ok : (c : goal.After-insert) → is_ok c.insert.result ≡ true
 ok c = c.insert.ensures.succeeds (omega (arith, c.requires.room, c.args.self.now.room))
 
-items : (c : goal.After-insert) → c.insert.new.self.items ≡ insert c.args.self.now.courses.items c.place-for-place.result c.args.course
+items : (c : goal.After-insert) → c.insert.new.self.items ≡ insert c.args.self.now.courses.items c.place_for-place.result c.args.course
 items c = c.insert.ensures.items ∙ cond-true (is_ok c.insert.result) _ _ (ok c)
 
 sorted : (c : goal.After-insert) → c.insert.new.self.items ≡ put (time_of c.args.at) c.args.course c.args.self.now.courses.items
 sorted c =
-    let v = c.as-slice.ensures.value in
-    items c ∙ ap (λ l. insert l c.place-for-place.result c.args.course) (sym v) ∙ c.place-for-place.ensures.put ∙ ap (put (time_of c.args.at) c.args.course) v
+    let v = c.as_slice.ensures.value in
+    items c ∙ ap (λ l. insert l c.place_for-place.result c.args.course) (sym v) ∙ c.place_for-place.ensures.put ∙ ap (put (time_of c.args.at) c.args.course) v
 
-pub invariant-of-self : goal.invariant-of-self
-invariant-of-self c =
+pub invariant_of-self : goal.invariant_of-self
+invariant_of-self c =
     let xs = c.args.self.now.courses.items in
     let ys = c.insert.new.self.items in
-    let i = c.place-for-place.result in
+    let i = c.place_for-place.result in
     let x = c.args.course in
     let len : c.insert.new.self.len ≡ c.args.self.now.courses.len + 1 = c.insert.ensures.len ∙ cond-true (is_ok c.insert.result) _ _ (ok c) in
-    let more : c.crossings-more.result ≡ crossed xs i x = c.crossings-more.ensures.count ∙ ap (λ l. crossed l i x) c.as-slice-2.ensures.value in
-    let load : load ys ≡ load xs + crossed xs i x = ap load (items c) ∙ load_inserted xs i x in (
-      omega (arith, len, c.requires.room),
-      (
-        omega (arith, c.insert.ensures.capacity, c.args.self.now.room),
-        (
-          subst (λ l. well l ≡ true) (sym (sorted c)) (well_put (time_of c.args.at) x xs (record { in_range = c.requires.range; number = c.requires.fits }) c.requires.new c.args.self.now.sound),
-          (omega (arith, load, more, c.args.self.now.counted), tt),
-        ),
-      ),
-    )
+    let more : c.crossings-more.result ≡ crossed xs i x = c.crossings-more.ensures.count ∙ ap (λ l. crossed l i x) c.as_slice-2.ensures.value in
+    let load : load ys ≡ load xs + crossed xs i x = ap load (items c) ∙ load_inserted xs i x in
+    record {
+      few = omega (arith, len, c.requires.room);
+      room = omega (arith, c.insert.ensures.capacity, c.args.self.now.room);
+      sound = subst (λ l. well l ≡ true) (sym (sorted c)) (well_put (time_of c.args.at) x xs (record { in_range = c.requires.range; number = c.requires.fits }) c.requires.new c.args.self.now.sound);
+      counted = omega (arith, load, more, c.args.self.now.counted);
+    }

@@ -12,22 +12,19 @@ parts c =
     let ys = c.remove-gone.new.self.items in
     let i = c.args.place in
     let x = c.remove-gone.result in
-    let fewer : c.crossings-fewer.result ≡ crossed ys i x = c.crossings-fewer.ensures.count ∙ ap (λ l. crossed l i x) c.as-slice.ensures.value in
+    let fewer : c.crossings-fewer.result ≡ crossed ys i x = c.crossings-fewer.ensures.count ∙ ap (λ l. crossed l i x) c.as_slice.ensures.value in
     omega (arith, fewer, load_removed xs ys i x (omega arith) c.remove-gone.ensures.items c.remove-gone.ensures.value)
 
-pub overflow-sub-self : goal.overflow-sub-self
-overflow-sub-self c = omega (arith, parts c, c.args.self.now.counted)
+pub overflow_sub-self : goal.overflow_sub-self
+overflow_sub-self c = omega (arith, parts c, c.args.self.now.counted)
 
-pub invariant-of-self : goal.invariant-of-self
-invariant-of-self c =
+pub invariant_of-self : goal.invariant_of-self
+invariant_of-self c =
     let xs = c.args.self.now.courses.items in
-    let k = c.args.self.now.counted in (
-      omega arith,
-      (
-        omega arith,
-        (
-          subst (λ l. well l ≡ true) (sym c.remove-gone.ensures.items) (well_removed xs c.args.place c.args.self.now.sound),
-          (omega (arith, parts c), tt),
-        ),
-      ),
-    )
+    let k = c.args.self.now.counted in
+    record {
+      few = omega arith;
+      room = omega arith;
+      sound = subst (λ l. well l ≡ true) (sym c.remove-gone.ensures.items) (well_removed xs c.args.place c.args.self.now.sound);
+      counted = omega (arith, parts c);
+    }

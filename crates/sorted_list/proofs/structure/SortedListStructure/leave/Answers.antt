@@ -20,19 +20,19 @@ pub returns : goal.returns
 returns c =
     let n = c.args.number in
     let xs = c.args.self.now.courses.items in
-    let ys = c.take-out.new.self.courses.items in
+    let ys = c.take_out.new.self.courses.items in
     let i = c.in-Some.place in
-    let v = c.as-slice.ensures.value in
+    let v = c.as_slice.ensures.value in
     let f = c.in-Some.ensures in
     let h : i < length xs = subst (λ l. i < length l) v f.0 in
-    let e : ys ≡ without n xs = c.take-out.ensures ∙ subst (λ l. remove l i ≡ without n l) v f.1 in
-    let l : length ys + 1 ≡ length xs = ap (λ z. length z + 1) c.take-out.ensures ∙ length-remove xs i h in
+    let e : ys ≡ without n xs = c.take_out.ensures ∙ subst (λ l. remove l i ≡ without n l) v f.1 in
+    let l : length ys + 1 ≡ length xs = ap (λ z. length z + 1) c.take_out.ensures ∙ length-remove xs i h in
     let o = roster_out n xs ys c.args.self.now.sound e in (
       vessel_known M c.args.self.now n c.if-number-eq0.false (get_or xs i nobody) (subst (λ z. course_of z n ≡ Some (get_or z i nobody)) v (f.2 nobody)),
       record {
         there = o.0;
         others = o.1;
-        named = between_named xs ys (listed c.numbers-from.result) i c.len.result c.numbers-from.ensures (certs_out xs ys nobody i h c.take-out.ensures) (past_end xs ys c.len.result (omega arith) (omega arith));
+        named = between_named xs ys (listed c.numbers_from.result) i c.len.result c.numbers_from.ensures (certs_out xs ys nobody i h c.take_out.ensures) (past_end xs ys c.len.result (omega arith) (omega arith));
         rests = rested_without (time_of c.args.at) n xs ys e;
       },
     )

@@ -17,21 +17,21 @@ pub exchange-requires : goal.exchange-requires
 exchange-requires c =
     let t = time_of c.args.at in
     let xs = c.args.self.now.courses.items in
-    let d = told_due t xs c.args.certificate c.certificate.result c.if-not-is-certificate-due.ensures c.certificate.ensures in
+    let d = told_due t xs c.args.certificate c.certificate.result c.if-not-is_certificate_due.ensures c.certificate.ensures in
     record { within = omega (arith, d.within); faster = pair_faster t xs c.args.certificate d }
 
-pub overflow-add-certificate : goal.overflow-add-certificate
-overflow-add-certificate c =
+pub overflow_add-certificate : goal.overflow_add-certificate
+overflow_add-certificate c =
     let xs = c.args.self.now.courses.items in
-    let d = told_due (time_of c.args.at) xs c.args.certificate c.certificate.result c.if-not-is-certificate-due.ensures c.certificate.ensures in
+    let d = told_due (time_of c.args.at) xs c.args.certificate c.certificate.result c.if-not-is_certificate_due.ensures c.certificate.ensures in
     let few = c.args.self.now.few in
     let h : c.args.certificate + 2 < 18446744073709551616 = omega (arith, d.within) in
     search rules
 
-pub numbers-from-requires : goal.numbers-from-requires
-numbers-from-requires c =
+pub numbers_from-requires : goal.numbers_from-requires
+numbers_from-requires c =
     let xs = c.args.self.now.courses.items in
-    let d = told_due (time_of c.args.at) xs c.args.certificate c.certificate.result c.if-not-is-certificate-due.ensures c.certificate.ensures in
+    let d = told_due (time_of c.args.at) xs c.args.certificate c.certificate.result c.if-not-is_certificate_due.ensures c.certificate.ensures in
     let few = c.args.self.now.few in
     omega (arith, d.within)
 
@@ -41,12 +41,12 @@ returns c =
     let i = c.args.certificate in
     let xs = c.args.self.now.courses.items in
     let ys = c.exchange.new.self.courses.items in
-    let d = told_due t xs i c.certificate.result c.if-not-is-certificate-due.ensures c.certificate.ensures in
+    let d = told_due t xs i c.certificate.result c.if-not-is_certificate_due.ensures c.certificate.ensures in
     let p = passed_is t xs ys i c.args.self.now.sound d c.exchange.ensures in (
-      mend_accepted M c.args.self.now t i (tested t c.certificate.result (certificate_at xs i) true c.if-not-is-certificate-due.ensures c.certificate.ensures),
+      mend_accepted M c.args.self.now t i (tested t c.certificate.result (certificate_at xs i) true c.if-not-is_certificate_due.ensures c.certificate.ensures),
       record {
         roster = p.roster;
-        named = away_named xs ys (listed c.numbers-from.result) i d.within c.exchange.ensures c.numbers-from.ensures;
+        named = away_named xs ys (listed c.numbers_from.result) i d.within c.exchange.ensures c.numbers_from.ensures;
         stands = p.stands;
         by = p.by;
       },
