@@ -1,8 +1,8 @@
 -- The columns of the cells, through a read and a write.
-use Rattle.std.proofs.Common.{◌≡◌, ℕ, zero, suc, ◌<◌, ◌≤◌, List, [], ◌∷◌, map, length, get_or, set, None, Option, sym, refl, ap, ◌∙◌, arith}
+use Rattle.std.proofs.Common.{◌≡◌, ℕ, ◌<◌, ◌≤◌, List, length, get_or, set, None, Option, refl, ap, ◌∙◌, arith}
 use Rattle.event_queue.proofs.Columns.{map_kept, map_past}
-use Rattle.std.proofs.lemmas.List.{map-set, set_past, length-map, get_or-map, get_or_past}
-use Rattle.binary_heap.specs.Slots.{Columns, columns, key_of, slot_of, ticket_at, key_at, with_key, with_ticket, with_slot, seated, exchanged}
+use Rattle.std.proofs.lemmas.List.{map-set, length-map, get_or-map, get_or_past}
+use Rattle.binary_heap.specs.Slots.{Columns, columns, key_of, slot_of, ticket_at, with_key, with_ticket, with_slot, seated, exchanged}
 use Rattle.binary_heap.specs.declared.cell.Cell.{Cell}
 
 columns_from : {K : Type 0} {k k' : List (Option K)} {s s' i i' : List ℕ} → k ≡ k' → s ≡ s' → i ≡ i' → ◌≡◌ {A = Columns K} (record { key = k; slot = s; ticket = i }) (record { key = k'; slot = s'; ticket = i' })

@@ -1,16 +1,16 @@
 -- From the columns to the heap: what a change of one ticket does, and which key comes first.
-use Rattle.std.proofs.Common.{◌≡◌, ℕ, ◌+◌, ◌-◌, ◌<◌, ◌≤◌, Bool, true, false, ◌≢◌, List, length, get_or, set, is_some, Some, None, Option, sym, refl, ap, ◌∙◌, subst, ⊎_elim, arith}
+use Rattle.std.proofs.Common.{◌≡◌, ℕ, ◌+◌, ◌-◌, ◌<◌, ◌≤◌, Bool, false, ◌≢◌, List, length, get_or, set, is_some, Some, None, Option, sym, refl, ap, ◌∙◌, subst, ⊎_elim, arith}
 use Rattle.std.proofs.lemmas.Bool.{cases_lt}
 use Rattle.std.proofs.lemmas.List.{get_or-set_same, get_or-set_other, length-set}
 use Rattle.event_queue.specs.Orders.{sooner}
 use Rattle.event_queue.specs.Queues.{count_below}
 use Rattle.event_queue.proofs.Orders.{Total}
-use Rattle.event_queue.proofs.Counts.{count_same, count_none, count_more, count_room, count_some}
+use Rattle.event_queue.proofs.Counts.{count_none, count_more, count_room, count_some}
 use Rattle.binary_heap.specs.declared.cell.Cell.{Cell}
 use Rattle.binary_heap.specs.Slots.{Columns, columns, key_of, key_past, slot_of, ticket_at, key_at, with_key, seated, Seat, Linked}
-use Rattle.binary_heap.specs.Orders.{Ordered, Upward, Loose}
+use Rattle.binary_heap.specs.Orders.{Upward, Loose}
 use Rattle.binary_heap.specs.Sifts.{Settled}
-use Rattle.binary_heap.specs.Sound.{Sound, Keyed, Earliest}
+use Rattle.binary_heap.specs.Sound.{Sound, Keyed}
 use Rattle.binary_heap.proofs.Columns.{key_length}
 use Rattle.binary_heap.proofs.Sifting.{top_first}
 use Rattle.binary_heap.proofs.Sifts.{cells_even}

@@ -1,10 +1,10 @@
 -- From the first 64 cells to the queue.
-use Rattle.std.proofs.Common.{◌≡◌, ℕ, ◌<◌, ◌≤◌, min, Bool, true, false, List, length, get_or, take, Some, None, Option, sym, refl, ap, ◌∙◌, subst, ⊎_elim, arith}
+use Rattle.std.proofs.Common.{◌≡◌, ℕ, ◌<◌, min, Bool, List, length, get_or, take, Some, None, Option, ap, ◌∙◌, arith}
 use Rattle.std.proofs.lemmas.List.{get_or-take}
 use Rattle.event_queue.proofs.Fronts.{length_64}
 use Rattle.binary_heap.specs.declared.cell.Cell.{Cell}
-use Rattle.binary_heap.specs.Slots.{Linked, Seat, columns, key_of, ticket_at}
-use Rattle.binary_heap.specs.Sound.{Sound, Keyed, Earliest}
+use Rattle.binary_heap.specs.Slots.{columns, key_of, ticket_at}
+use Rattle.binary_heap.specs.Sound.{Sound, Keyed}
 use Rattle.binary_heap.proofs.Columns.{key_read, ticket_read, key_length}
 use Rattle.binary_heap.proofs.Heaps.{keyed_length, keyed_there, held_cell, first_held}
 use Rattle.event_queue.proofs.Options.{some_none}

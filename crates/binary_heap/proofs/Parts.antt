@@ -1,5 +1,5 @@
 -- What a call on a part of the cells does, told of the first 64 cells.
-use Rattle.std.proofs.Common.{◌≡◌, ℕ, ◌<◌, min, Bool, List, length, Some, None, Option, sym, subst, arith}
+use Rattle.std.proofs.Common.{◌≡◌, ℕ, ◌<◌, Bool, List, length, Some, None, sym, subst}
 use Rattle.binary_heap.specs.declared.cell.Cell.{Cell}
 use Rattle.binary_heap.specs.Slots.{columns, key_of}
 use Rattle.binary_heap.specs.Sound.{Sound, Keyed}

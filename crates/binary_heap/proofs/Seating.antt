@@ -1,21 +1,14 @@
 -- A ticket that gets a key, and one that loses it: the columns before the sift, and the heap after it.
-use Rattle.std.proofs.Common.{◌≡◌, ℕ, ◌+◌, ◌-◌, ◌/◌, ◌<◌, ◌≤◌, Bool, true, false, ◌≢◌, List, length, get_or, set, is_some, Some, None, Option, sym, refl, ap, ◌∙◌, subst, ⊎_elim, arith}
+use Rattle.std.proofs.Common.{◌≡◌, ℕ, ◌+◌, ◌-◌, ◌<◌, ◌≤◌, Bool, false, ◌≢◌, length, set, Some, None, sym, ap, ◌∙◌, subst, ⊎_elim, arith}
 use Rattle.std.proofs.lemmas.Bool.{cases_eq}
-use Rattle.std.proofs.lemmas.List.{get_or-set_same, get_or-set_other, length-set, get_or_past}
+use Rattle.std.proofs.lemmas.List.{get_or-set_same, get_or-set_other, length-set}
 use Rattle.event_queue.specs.Orders.{sooner}
-use Rattle.event_queue.specs.Queues.{count_below}
 use Rattle.event_queue.proofs.Options.{some_none}
 use Rattle.event_queue.proofs.Orders.{Total, sooner_carries}
-use Rattle.event_queue.proofs.Counts.{count_more, count_room, count_some}
-use Rattle.binary_heap.specs.declared.cell.Cell.{Cell}
-use Rattle.binary_heap.specs.Slots.{Columns, columns, key_of, slot_of, ticket_at, key_at, with_key, seated, Seat, Linked}
+use Rattle.binary_heap.specs.Slots.{Columns, key_of, slot_of, ticket_at, key_at, with_key, seated, Seat, Linked}
 use Rattle.binary_heap.specs.Orders.{parent, Ordered, Upward, Loose}
-use Rattle.binary_heap.specs.Sifts.{Settled}
-use Rattle.binary_heap.specs.Sound.{Sound, Keyed}
-use Rattle.binary_heap.proofs.Columns.{key_length}
 use Rattle.binary_heap.proofs.Seats.{Even, seated_ticket, seated_slot, seated_ticket_other, seated_slot_other, seat_from}
 use Rattle.binary_heap.proofs.Sifting.{later_as}
-use Rattle.binary_heap.proofs.Sifts.{cells_even}
 
 -- The ticket i, which holds no key, gets one and stands in the slot n.
 module _ {K : Type 0} (before : K → K → Bool) (t : Columns K) (even : Even t) (n i : ℕ) (k : K) (l : Linked t n) (hn : n < length t.key) (hi : i < length t.key) (free : key_of t i ≡ None) where

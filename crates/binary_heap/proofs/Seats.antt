@@ -1,8 +1,8 @@
 -- Tickets in their slots: what an exchange, a new ticket and a removal keep.
-use Rattle.std.proofs.Common.{◌≡◌, ℕ, ◌+◌, ◌-◌, ◌<◌, ◌≤◌, ◌≢◌, List, length, get_or, set, Some, None, Option, sym, refl, ap, ◌∙◌, subst, ⊎_elim, arith}
+use Rattle.std.proofs.Common.{◌≡◌, ℕ, ◌<◌, ◌≢◌, length, Some, sym, ap, ◌∙◌, subst, ⊎_elim, arith}
 use Rattle.std.proofs.lemmas.Bool.{cases_eq}
 use Rattle.std.proofs.lemmas.List.{get_or-set_same, get_or-set_other, length-set}
-use Rattle.binary_heap.specs.Slots.{Columns, key_of, slot_of, ticket_at, key_at, with_key, seated, exchanged, Seat, Linked}
+use Rattle.binary_heap.specs.Slots.{Columns, key_of, slot_of, ticket_at, key_at, seated, exchanged, Seat, Linked}
 
 -- the columns are equally long
 pub record Even {K : Type 0} (t : Columns K) : Type 0 where

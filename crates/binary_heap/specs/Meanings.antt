@@ -1,6 +1,6 @@
 -- What a binary heap means as an event queue.
 use Rattle.std.specs.Prelude.{◌≡◌, ℕ, ◌≤◌, min, Bool, List, length, take, drop, None, refl}
-use Rattle.std.proofs.Common.{sym, subst, ◌∙◌, arith, length-take}
+use Rattle.std.proofs.Common.{◌∙◌, arith, length-take}
 use Rattle.event_queue.specs.Queues.{Meaning}
 use Rattle.binary_heap.specs.declared.cell.Cell.{Cell}
 use Rattle.binary_heap.specs.declared.heap.BinaryHeap.{BinaryHeap}

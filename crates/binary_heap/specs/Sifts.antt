@@ -1,5 +1,5 @@
 -- What a sift does.
-use Rattle.std.specs.Prelude.{◌≡◌, ℕ, ◌<◌, Bool}
+use Rattle.std.specs.Prelude.{◌≡◌, ℕ, Bool}
 use Rattle.binary_heap.specs.Slots.{Columns, key_at, Linked}
 use Rattle.binary_heap.specs.Orders.{Ordered, Upward, Downward, Loose}
 

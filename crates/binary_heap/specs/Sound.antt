@@ -1,8 +1,8 @@
 -- When cells hold a binary heap, and what a change of one ticket does.
-use Rattle.std.specs.Prelude.{◌≡◌, ℕ, ◌<◌, Bool, false, List, length, is_some, Some, None, Option, slice_set}
+use Rattle.std.specs.Prelude.{◌≡◌, ℕ, Bool, false, List, length, is_some, Some, None, Option, slice_set}
 use Rattle.event_queue.specs.Queues.{count_below}
 use Rattle.binary_heap.specs.declared.cell.Cell.{Cell}
-use Rattle.binary_heap.specs.Slots.{Columns, columns, key_of, key_at, Linked}
+use Rattle.binary_heap.specs.Slots.{columns, key_of, key_at, Linked}
 use Rattle.binary_heap.specs.Orders.{Ordered}
 
 module _ {K : Type 0} (before : K → K → Bool) where

@@ -1,3 +1,5 @@
+#![tactic(auto)]
+
 pub mod cell;
 pub mod heap;
 mod sift;

@@ -1,6 +1,6 @@
 -- Where a log leads once one more call is made: the sheet still holds the lines that wait, and the
 -- call's answer was right.
-use Rattle.std.proofs.Common.{◌≡◌, ℕ, Bool, true, false, eqb, ltb, List, [], ◌∷◌, is_some, Some, None, Ok, Err, Option, Result, sym, refl, ap, ◌∙◌, subst, inl, inr, ⊎_elim, arith}
+use Rattle.std.proofs.Common.{◌≡◌, ℕ, Bool, true, false, eqb, ltb, List, ◌∷◌, is_some, Some, None, Ok, Err, Option, Result, sym, refl, ap, ◌∙◌, subst, inl, inr, ⊎_elim, arith}
 use Rattle.std.proofs.lemmas.Bool.{eqb-false, ne_eqb, ltb-false, cases_eq}
 use Rattle.event_queue.specs.Queues.{Meaning, Only, HandedOut}
 use Rattle.call_sheet.specs.Sheets.{Does}

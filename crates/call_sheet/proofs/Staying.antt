@@ -1,5 +1,5 @@
 -- No call changes how many lines there are.
-use Rattle.std.proofs.Common.{◌≡◌, ℕ, Some, None, Ok, Err, refl, ap}
+use Rattle.std.proofs.Common.{◌≡◌, ℕ, Some, None, Ok, Err, ap}
 use Rattle.event_queue.specs.Queues.{Meaning}
 use Rattle.call_sheet.specs.Sheets.{Does}
 use Rattle.call_sheet.specs.declared.call.Event.{Event}

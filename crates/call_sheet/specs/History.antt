@@ -1,5 +1,5 @@
 -- A sheet by what happened on it since it was empty. A log has the newest event first.
-use Rattle.std.specs.Prelude.{◌≡◌, ℕ, ◌<◌, ◌≤◌, Bool, true, false, ◌⊎◌, List, [], ◌∷◌, Some, None, Ok, Err, Option, ◌==◌}
+use Rattle.std.specs.Prelude.{◌≡◌, ℕ, ◌<◌, ◌≤◌, Bool, true, false, ◌⊎◌, List, [], ◌∷◌, Some, None, Ok, Err, ◌==◌}
 use Rattle.event_queue.specs.Queues.{Meaning}
 use Rattle.call_sheet.specs.Lines.{line_refusal}
 use Rattle.call_sheet.specs.declared.call.Event.{Event}

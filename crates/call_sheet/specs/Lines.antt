@@ -1,6 +1,6 @@
 -- The refusals of a call sheet.
 use Rattle.std.specs.Prelude.{ℕ, [], ◌∷◌, Option, nat_le}
-use Rattle.event_queue.specs.Refusals.{Line, ◌when◌, topmost}
+use Rattle.event_queue.specs.Refusals.{◌when◌, topmost}
 use Rattle.call_sheet.specs.declared.refusal.Refusal.{Refusal}
 use Rattle.call_sheet.specs.declared.refusal.Refusal.TheVariants.{NoSuchLine}
 

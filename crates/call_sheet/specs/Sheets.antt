@@ -1,6 +1,6 @@
 -- What each call on a sheet does to what the sheet holds: for some lines, the second at which each is
 -- awaited. It is what the sheet's queue holds, line for ticket.
-use Rattle.std.specs.Prelude.{◌≡◌, ℕ, ◌<◌, Bool, true, false, is_some, Some, None, Ok, Err, Option, Result, nat_lt}
+use Rattle.std.specs.Prelude.{◌≡◌, ℕ, ◌<◌, Bool, is_some, Some, None, Ok, Err, Option, Result, nat_lt}
 use Rattle.event_queue.specs.Queues.{Meaning, Only, HandedOut}
 use Rattle.call_sheet.specs.Lines.{line_refusal}
 use Rattle.call_sheet.specs.declared.call.Call.{Call}

@@ -1,3 +1,5 @@
+#![tactic(auto)]
+
 pub mod call;
 pub mod refusal;
 pub mod sheet;

@@ -1,6 +1,6 @@
 -- What an event queue means, and what each of its calls does.
-use Rattle.std.specs.Prelude.{◌≡◌, ℕ, zero, suc, ◌+◌, ◌<◌, ◌≤◌, Bool, true, false, cond, List, [], ◌∷◌, is_some, Some, None, Ok, Err, Option, Result, ◌≢◌, nat_le}
-use Rattle.event_queue.specs.Refusals.{Line, ◌when◌, topmost}
+use Rattle.std.specs.Prelude.{◌≡◌, ℕ, zero, suc, ◌+◌, ◌≤◌, Bool, true, false, cond, [], ◌∷◌, is_some, Some, None, Ok, Err, Option, Result, ◌≢◌, nat_le}
+use Rattle.event_queue.specs.Refusals.{◌when◌, topmost}
 use Rattle.event_queue.specs.declared.refusal.Refusal.{Refusal}
 use Rattle.event_queue.specs.declared.refusal.Refusal.TheVariants.{NoSuchTicket, TicketHeld}
 

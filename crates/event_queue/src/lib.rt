@@ -1,3 +1,5 @@
+#![tactic(auto)]
+
 pub mod clear;
 pub mod key;
 pub mod queue;

@@ -1,3 +1,5 @@
+#![tactic(auto)]
+
 pub mod course;
 pub mod euclid;
 pub mod example;

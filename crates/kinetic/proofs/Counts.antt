@@ -1,5 +1,5 @@
 -- How many vessels a roster has, as one of them comes or goes.
-use Rattle.std.proofs.Common.{◌≡◌, ℕ, ◌+◌, ◌<◌, Bool, true, false, ◌⊎◌, is_some, Some, None, Option, sym, refl, ap, ◌∙◌, ⊎_elim, arith}
+use Rattle.std.proofs.Common.{◌≡◌, ℕ, ◌+◌, ◌<◌, true, is_some, Some, None, Option, sym, ap, ◌∙◌}
 use Rattle.event_queue.proofs.Counts as counts
 use Rattle.event_queue.proofs.Counts.{count_same, count_more}
 use Rattle.fairway.specs.declared.course.Course.{Course}

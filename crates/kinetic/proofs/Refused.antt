@@ -1,5 +1,5 @@
 -- The tables of refusals, line by line, for whoever implements or calls a structure.
-use Rattle.std.proofs.Common.{◌≡◌, ℕ, ◌<◌, ◌≤◌, Bool, true, false, not, eqb, leb, List, [], ◌∷◌, is_some, Some, None, Option, sym, refl, ap, ◌∙◌}
+use Rattle.std.proofs.Common.{◌≡◌, ℕ, ◌<◌, ◌≤◌, true, false, not, eqb, leb, is_some, Some, None, Option, sym, refl, ap, ◌∙◌}
 use Rattle.std.proofs.lemmas.Bool.{eq-eqb, ne_eqb, eqb-false, le-leb, lt-leb, leb-false, both_ways}
 use Rattle.event_queue.proofs.Laws.{topmost_true, topmost_false, topmost_none}
 use Rattle.fairway.specs.Times.{Time}

@@ -1,17 +1,16 @@
 -- Mending until none is due, on any structure.
-use Rattle.std.proofs.Common.{◌≡◌, ℕ, ◌+◌, ◌<◌, ◌≤◌, Bool, true, false, not, ◌⊎◌, List, [], ◌∷◌, Some, None, Ok, Err, Option, Result, sym, refl, ap, ◌∙◌, subst, inl, inr, ⊎_elim, arith}
-use Rattle.std.proofs.lemmas.Bool.{cases_lt}
+use Rattle.std.proofs.Common.{◌≡◌, ℕ, ◌+◌, ◌<◌, ◌≤◌, true, false, not, List, [], Some, None, Ok, Err, Option, Result, sym, refl, ap, ◌∙◌, subst, arith}
 use Rattle.event_queue.proofs.Laws.{topmost_false}
 use Rattle.fairway.specs.Times.{Time}
 use Rattle.fairway.specs.declared.course.Course.{Course}
 use Rattle.kinetic.specs.Limits.{due}
 use Rattle.kinetic.specs.Numbers.{listed}
-use Rattle.kinetic.specs.Structures.{Meaning, NoneDue, Rests, Front, InFront, Certified, Mended, Mend, mend_refusal}
-use Rattle.kinetic.specs.Settling.{FirstDue, Settled}
+use Rattle.kinetic.specs.Structures.{Meaning, NoneDue, Front, InFront, Certified, Mended, Mend, mend_refusal}
+use Rattle.kinetic.specs.Settling.{Settled}
 use Rattle.kinetic.specs.declared.numbers.Numbers.{Numbers}
 use Rattle.kinetic.specs.declared.refusal.Refusal.{Refusal}
 use Rattle.kinetic.specs.declared.refusal.Refusal.TheVariants.{NotDue}
-use Rattle.kinetic.proofs.Tests.{due_pair, not_due}
+use Rattle.kinetic.proofs.Tests.{not_due}
 
 pub same_front : (t : Time) (a b : ℕ → Option Course) (v : Option ℕ) → ((n : ℕ) → a n ≡ b n) → Front t a v → Front t b v
 same_front t a b None e f = λ n. sym (e n) ∙ f n

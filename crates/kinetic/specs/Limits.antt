@@ -1,5 +1,5 @@
 -- The tests that refusals rest on.
-use Rattle.std.specs.Prelude.{Bool, true, false, ◌&&◌, ◌||◌, pos, negsuc, Some, None, Option, int_le, int_lt}
+use Rattle.std.specs.Prelude.{Bool, false, ◌&&◌, ◌||◌, pos, negsuc, Some, None, Option, int_le, int_lt}
 use Rattle.fairway.specs.Times.{Time}
 use Rattle.fairway.specs.Courses.{place, faster}
 use Rattle.fairway.specs.declared.course.Course.{Course}

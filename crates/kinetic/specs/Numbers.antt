@@ -1,5 +1,5 @@
 -- Certificate numbers that a change answers.
-use Rattle.std.specs.Prelude.{◌≡◌, ℕ, ◌+◌, ◌<◌, ◌≤◌, Bool, true, false, ◌||◌, List, [], ◌∷◌, ◌++◌, take, ◌==◌}
+use Rattle.std.specs.Prelude.{◌≡◌, ℕ, ◌+◌, ◌<◌, ◌≤◌, Bool, false, ◌||◌, List, [], ◌∷◌, ◌++◌, take, ◌==◌}
 use Rattle.kinetic.specs.declared.numbers.Numbers.{Numbers}
 
 -- the numbers, in the order in which they were added

@@ -1,5 +1,5 @@
 -- What a kinetic structure means, what it shows, and what each of its calls does.
-use Rattle.std.specs.Prelude.{◌≡◌, ℕ, ◌<◌, ◌≤◌, Bool, true, false, not, List, [], ◌∷◌, is_some, Some, None, Ok, Err, Option, Result, ◌≢◌, nat_eq, nat_le}
+use Rattle.std.specs.Prelude.{◌≡◌, ℕ, ◌<◌, ◌≤◌, true, false, not, List, [], ◌∷◌, is_some, Some, None, Ok, Err, Option, Result, ◌≢◌, nat_eq, nat_le}
 use Rattle.event_queue.specs.Refusals.{◌when◌, topmost}
 use Rattle.event_queue.specs.Queues.{count_below}
 use Rattle.fairway.specs.Times.{Time, Proper, ◌≤ᵗ◌}

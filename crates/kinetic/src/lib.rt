@@ -1,3 +1,5 @@
+#![tactic(auto)]
+
 pub mod changed;
 pub mod limits;
 pub mod numbers;

@@ -1,7 +1,7 @@
 -- The columns of the cells, through a read and a write.
-use Rattle.std.proofs.Common.{◌≡◌, ℕ, zero, suc, ◌<◌, ◌≤◌, true, false, List, [], ◌∷◌, map, length, get_or, set, Some, None, Option, sym, refl, ap, ◌∙◌, arith}
+use Rattle.std.proofs.Common.{◌≡◌, ℕ, ◌<◌, ◌≤◌, true, false, List, length, get_or, set, Some, None, Option, sym, refl, ap, ◌∙◌, arith}
 use Rattle.event_queue.proofs.Columns.{map_kept, map_past}
-use Rattle.std.proofs.lemmas.List.{map-set, set_past, length-map, get_or-map, get_or_past}
+use Rattle.std.proofs.lemmas.List.{map-set, length-map, get_or-map, get_or_past}
 use Rattle.pairing_heap.specs.Links.{Columns, columns, key_of, child_of, next_of, back_of, with_key, with_child, with_next, with_back, linked, leads_to, bypassed, taken_from, without_tree}
 use Rattle.pairing_heap.specs.declared.node.Node.{Node}
 

@@ -4,7 +4,7 @@ use Rattle.std.proofs.lemmas.Bool.{cases_eq}
 use Rattle.std.proofs.lemmas.List.{get_or-set_same, get_or-set_other, length-set}
 use Rattle.pairing_heap.specs.declared.node.Node.{Node}
 use Rattle.pairing_heap.specs.Links.{Columns, columns, key_of, with_key, with_child}
-use Rattle.pairing_heap.specs.Forests.{nil, node, one, times, nodes}
+use Rattle.pairing_heap.specs.Forests.{nil, node, times, nodes}
 use Rattle.pairing_heap.specs.Melds.{Made, Melds}
 use Rattle.pairing_heap.specs.Sound.{bit, Sound, Keyed}
 use Rattle.pairing_heap.proofs.Columns.{key_length, cells_even}

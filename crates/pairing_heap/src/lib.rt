@@ -1,3 +1,5 @@
+#![tactic(auto)]
+
 mod cut;
 pub mod heap;
 mod links;

@@ -1,3 +1,5 @@
+#![tactic(auto)]
+
 ghost use Rattle.std.specs.Prelude.{◌≡◌};
 ghost use Rattle.event_queue.specs.Queues.{Empty};
 ghost use Rattle.single_ticket.specs.Meanings.{single_meaning};

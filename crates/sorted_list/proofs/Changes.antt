@@ -1,21 +1,21 @@
 -- Lists through an exchange, an insert and a remove, and the searches for a place.
-use Rattle.std.proofs.Common.{◌≡◌, ℕ, zero, suc, ◌+◌, ◌<◌, ◌≤◌, Bool, true, false, cond, not, ◌&&◌, eqb, ◌≢◌, ◌⊎◌, List, [], ◌∷◌, ◌++◌, length, get_or, take, drop, set, Some, None, Option, sym, refl, ap, ◌∙◌, subst, inl, inr, ⊎_elim, add-one, arith, length-set, get_or-set_other}
+use Rattle.std.proofs.Common.{◌≡◌, ℕ, zero, suc, ◌+◌, ◌<◌, ◌≤◌, Bool, true, false, cond, eqb, ◌≢◌, List, [], ◌∷◌, ◌++◌, length, get_or, take, drop, set, Some, None, sym, refl, ap, ◌∙◌, subst, inl, ⊎_elim, add-one, arith, length-set, get_or-set_other}
 use Rattle.std.specs.List.{remove, insert, swap, AllByRecursion as All}
 use Rattle.std.proofs.lemmas.List.Edits.{swap_is, length-insert, length-remove, get_or-insert_below, get_or-insert_above, get_or-remove_below, get_or-remove_above}
 use Rattle.std.proofs.lemmas.List.{drop_more, take_more, drop_all, get_or_default, append_assoc}
 use Rattle.std.proofs.ByRecursion.{All-weaker}
-use Rattle.std.proofs.lemmas.Bool.{eqb-true, eqb-false, eq-eqb, ne_eqb, cond-true, cond-false, cond_both, cases_Bool, cases_lt}
+use Rattle.std.proofs.lemmas.Bool.{eqb-true, eq-eqb, ne_eqb, cond-true, cond-false, cond_both, cases_lt}
 use Rattle.fairway.specs.declared.course.Course.{Course}
 use Rattle.fairway.specs.Times.{Time}
 use Rattle.fairway.specs.Courses.{faster}
 use Rattle.fairway.specs.Behind.{behind}
-use Rattle.fairway.specs.Orders.{Holds, Apart, Sorted, put, load, Exchange, here, there}
+use Rattle.fairway.specs.Orders.{Apart, Sorted, put, load, Exchange, here, there}
 use Rattle.fairway.proofs.Sorting.{all_put, holds_put}
 use Rattle.fairway.proofs.Standings.{all_exchange}
 use Rattle.fairway.proofs.Advance.{loses_one}
 use Rattle.sorted_list.specs.Rosters.{well, course_of, certificate_at, without}
 use Rattle.event_queue.proofs.Options.{none_some, some_same}
-use Rattle.sorted_list.specs.RostersLemmas.{Fits, found, of_found, absent, of_absent, cert_is, cert_past, well_ranged, well_apart, to_well}
+use Rattle.sorted_list.specs.RostersLemmas.{Fits, found, absent, of_absent, cert_is, cert_past, well_ranged, well_apart, to_well}
 
 -- ---- an exchange
 sets : (xs : List Course) (i : ℕ) (r f : Course) → certificate_at xs i ≡ Some (r, f) → Exchange r f xs (set (set xs i f) (suc i) r)

@@ -1,5 +1,5 @@
 -- Ranks and neighbours in a roster at a time, whatever list holds it.
-use Rattle.std.specs.Prelude.{◌≡◌, ℕ, Bool, true, false, List, Some, None, count_by, Option, ◌≢◌}
+use Rattle.std.specs.Prelude.{◌≡◌, ℕ, true, List, Some, None, count_by, Option, ◌≢◌}
 use Rattle.fairway.specs.Times.{Time}
 use Rattle.fairway.specs.Behind.{behind}
 use Rattle.fairway.specs.declared.course.Course.{Course}

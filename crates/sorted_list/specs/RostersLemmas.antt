@@ -1,22 +1,19 @@
 -- Lists of courses as rosters, their neighbours as certificates.
-use Rattle.std.specs.Prelude.{◌≡◌, ℕ, zero, suc, ◌+◌, ◌<◌, ◌≤◌, Bool, true, false, cond, not, ◌&&◌, ◌≢◌, ◌⊎◌, List, [], ◌∷◌, ◌++◌, length, pos, negsuc, ◌≤ℤ◌, Some, None, Option, ◌==◌, nat_lt, slice_index_or, refl}
+use Rattle.std.specs.Prelude.{◌≡◌, ℕ, zero, suc, ◌<◌, ◌≤◌, true, not, ◌&&◌, ◌≢◌, ◌⊎◌, List, [], ◌∷◌, length, Some, None, ◌==◌, nat_lt, slice_index_or, refl}
 use Rattle.std.proofs.Common.{sym, ap, subst, ◌∙◌, inl, inr, ⊎_elim, arith}
-use Rattle.std.specs.Int.Signed.{lt_z}
 use Rattle.std.specs.List.{AllByRecursion as All}
-use Rattle.std.proofs.ByRecursion.{All-weaker}
-use Rattle.std.proofs.lemmas.Int.{ints}
-use Rattle.std.proofs.lemmas.Bool.{and_parts, and_from, ltb-true, lt-ltb, eqb-true, eqb-false, eq-eqb, ne_eqb, not-true, not_from_false, cond-true, cond-false, cond_both, cases_Bool, cases_eq}
+use Rattle.std.proofs.lemmas.Bool.{and_parts, and_from, ltb-true, lt-ltb, eqb-true, eqb-false, eq-eqb, ne_eqb, not-true, not_from_false, cond-true, cond-false, cases_Bool}
 use Rattle.event_queue.proofs.Options.{none_some, some_same}
 use Rattle.fairway.specs.declared.course.Course.{Course}
 use Rattle.fairway.specs.Times.{Time}
 use Rattle.fairway.specs.Courses.{InRange}
 use Rattle.fairway.specs.Behind.{behind}
-use Rattle.fairway.specs.Orders.{Holds, Apart, Sorted, put}
+use Rattle.fairway.specs.Orders.{Holds, Apart, Sorted}
 use Rattle.fairway.specs.Standing.{Neighbours}
 use Rattle.fairway.proofs.Sorting.{held}
 use Rattle.kinetic.specs.Limits.{out_of_range}
 use Rattle.kinetic.proofs.Tests.{within, of_range}
-use Rattle.sorted_list.specs.Rosters.{allowed, fresh, well, course_of, certificate_at, last_of, last_number, without}
+use Rattle.sorted_list.specs.Rosters.{allowed, fresh, well, course_of, certificate_at, last_of}
 
 -- ---- within limits, apart
 -- within its limits, as the code keeps them

@@ -1,3 +1,5 @@
+#![tactic(auto)]
+
 mod edits;
 pub mod list;
 pub mod places;

@@ -1,5 +1,4 @@
-use Rattle.std.proofs.Common.{◌≡◌, ◌<◌, ◌≤◌, Bool, true, false, sym, refl, ap, ◌∙◌, arith}
-use Rattle.event_queue.proofs.Orders.{Total}
+use Rattle.std.proofs.Common.{sym, arith}
 use Rattle.binary_heap.specs.Slots.{columns, key_at}
 use Rattle.binary_heap.proofs.Sifts.{left_first, right_first}
 use Rattle.binary_heap.proofs.sift.first_child.Goals as goal

@@ -1,5 +1,4 @@
-use Rattle.std.proofs.Common.{◌≡◌, ◌<◌, ◌≤◌, Bool, true, false, sym, refl, ap, ◌∙◌, arith}
-use Rattle.event_queue.proofs.Orders.{Total}
+use Rattle.std.proofs.Common.{sym, arith}
 use Rattle.binary_heap.specs.Slots.{columns, key_at}
 use Rattle.binary_heap.proofs.Sifting.{loose_top, loose_down, loose_up}
 use Rattle.binary_heap.proofs.sift.sift.Goals as goal

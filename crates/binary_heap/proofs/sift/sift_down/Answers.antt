@@ -1,7 +1,5 @@
-use Rattle.std.proofs.Common.{◌≡◌, ◌<◌, ◌≤◌, Bool, true, false, sym, refl, ap, ◌∙◌, arith}
-use Rattle.event_queue.proofs.Orders.{Total}
-use Rattle.binary_heap.specs.Slots.{columns, key_at}
-use Rattle.binary_heap.proofs.Sifts.{cells_even, sink_step, sink_stop}
+use Rattle.binary_heap.specs.Slots.{columns}
+use Rattle.binary_heap.proofs.Sifts.{cells_even, sink_step}
 use Rattle.binary_heap.proofs.sift.sift_down.Goals as goal
 
 pub loop-child-preserved : goal.loop-child-preserved

@@ -1,4 +1,4 @@
-use Rattle.std.proofs.Common.{ℕ, ◌-◌, ◌<◌}
+use Rattle.std.proofs.Common.{◌-◌, ◌<◌}
 use Rattle.binary_heap.specs.Slots.{columns, key_at, Linked}
 use Rattle.binary_heap.specs.Orders.{Downward}
 use Rattle.binary_heap.proofs.Sifts.{Sinking}

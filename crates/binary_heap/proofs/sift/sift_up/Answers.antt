@@ -1,6 +1,5 @@
-use Rattle.std.proofs.Common.{◌≡◌, ◌<◌, ◌≤◌, Bool, true, false, sym, refl, ap, ◌∙◌, arith}
-use Rattle.event_queue.proofs.Orders.{Total}
-use Rattle.binary_heap.specs.Slots.{columns, key_at}
+use Rattle.std.proofs.Common.{sym, arith}
+use Rattle.binary_heap.specs.Slots.{columns}
 use Rattle.binary_heap.proofs.Sifts.{cells_even, rise_step, rise_top, rise_stop}
 use Rattle.binary_heap.proofs.sift.sift_up.Goals as goal
 

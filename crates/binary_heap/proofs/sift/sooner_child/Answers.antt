@@ -1,5 +1,4 @@
-use Rattle.std.proofs.Common.{◌≡◌, ◌<◌, ◌≤◌, Bool, true, false, sym, refl, ap, ◌∙◌, arith}
-use Rattle.event_queue.proofs.Orders.{Total}
+use Rattle.std.proofs.Common.{sym}
 use Rattle.binary_heap.specs.Slots.{columns, key_at}
 use Rattle.binary_heap.proofs.Sifts.{none_sooner}
 use Rattle.binary_heap.proofs.sift.sooner_child.Goals as goal

@@ -1,7 +1,7 @@
-use Rattle.std.proofs.Common.{◌≡◌, ◌<◌, ◌≤◌, length, get_or, None, ap, ◌∙◌, ⊎_elim, arith, below_more}
+use Rattle.std.proofs.Common.{length, get_or, None, ap, ◌∙◌, ⊎_elim, arith, below_more}
 use Rattle.std.proofs.lemmas.Bool.{cases_lt}
 use Rattle.std.proofs.lemmas.List.{get_or-set_same, get_or-set_other}
-use Rattle.binary_heap.specs.Slots.{columns, key_of, key_past}
+use Rattle.binary_heap.specs.Slots.{columns, key_past}
 use Rattle.binary_heap.proofs.Columns.{key_set, key_length}
 use Rattle.binary_heap.proofs.tickets.clear.Goals as goal
 

@@ -1,8 +1,6 @@
-use Rattle.std.proofs.Common.{◌≡◌, ◌<◌, ◌≤◌, min, length, get_or, take, Some, None, sym, refl, ap, ◌∙◌, subst, ⊎_elim, arith}
-use Rattle.event_queue.proofs.Orders.{Total}
+use Rattle.std.proofs.Common.{◌<◌, min, length, take, refl, ap, ◌∙◌, ⊎_elim, arith}
 use Rattle.event_queue.proofs.Fronts.{length_64}
 use Rattle.binary_heap.specs.Slots.{columns, key_of}
-use Rattle.binary_heap.specs.Sound.{Sound}
 use Rattle.binary_heap.proofs.Columns.{key_length}
 use Rattle.binary_heap.proofs.Heaps.{first_least, none_held}
 use Rattle.binary_heap.proofs.Methods.{key_64, ticket_64, first_cell, first_some}

@@ -1,7 +1,5 @@
-use Rattle.std.proofs.Common.{◌≡◌, ◌+◌, ◌-◌, ◌<◌, ◌≤◌, min, length, take, drop, Some, None, sym, refl, ap, ◌∙◌, subst, arith, length-drop, length-take}
+use Rattle.std.proofs.Common.{◌≡◌, ◌+◌, ◌-◌, min, length, take, drop, refl, ◌∙◌, arith, length-drop, length-take}
 use Rattle.event_queue.proofs.Fronts.{front_drop, front_take, front_part, length_64}
-use Rattle.binary_heap.specs.Slots.{columns, key_of}
-use Rattle.binary_heap.specs.Sound.{Sound, Keyed}
 use Rattle.binary_heap.proofs.Heaps.{room_left}
 use Rattle.binary_heap.proofs.Parts.{carry}
 use Rattle.binary_heap.proofs.tickets.insert_front.Goals as goal

@@ -1,5 +1,4 @@
 use Rattle.std.proofs.Common.{None, refl}
-use Rattle.event_queue.proofs.Orders.{Total}
 use Rattle.binary_heap.specs.Slots.{columns}
 use Rattle.binary_heap.proofs.Heaps.{written, remove_sifted, remove_unsifted}
 use Rattle.binary_heap.proofs.tickets.remove.Goals as goal

@@ -1,4 +1,4 @@
-use Rattle.std.proofs.Common.{◌≡◌, sym, ap, ◌∙◌}
+use Rattle.std.proofs.Common.{sym, ap, ◌∙◌}
 use Rattle.fairway.specs.Stamps.{time_of}
 use Rattle.kinetic.specs.Limits.{due}
 use Rattle.kinetic.proofs.Tests.{told}

@@ -1,6 +1,5 @@
-use Rattle.std.proofs.Common.{◌≡◌, ℕ, ◌<◌, Bool, true, false, ◌||◌, ℤ, pos, negsuc, sym, refl, ap, ◌∙◌, w16, w64, to_z, of_z, rules}
+use Rattle.std.proofs.Common.{◌≡◌, Bool, ◌||◌, ℤ, pos, negsuc, sym, ◌∙◌, w16, w64, to_z, of_z, rules}
 use lib.Signed.{lt_z}
-use Rattle.fairway.specs.Courses.{InRange}
 use Rattle.fairway.specs.declared.course.Course.{Course}
 use Rattle.kinetic.specs.Limits.{out_of_range}
 use Rattle.kinetic.proofs.Tests.{within, beyond}

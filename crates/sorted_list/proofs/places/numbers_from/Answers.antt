@@ -1,4 +1,4 @@
-use Rattle.std.proofs.Common.{◌≡◌, ◌-◌, ◌<◌, ap, subst, arith}
+use Rattle.std.proofs.Common.{◌<◌, subst, arith}
 use Rattle.kinetic.specs.Numbers.{listed}
 use Rattle.sorted_list.proofs.Naming.{NamedFrom, named_none, named_more, named_all}
 use Rattle.sorted_list.proofs.places.numbers_from.Goals as goal

@@ -1,4 +1,4 @@
-use Rattle.std.proofs.Common.{◌≡◌, ◌≤◌, length, take, sym, refl, ap, ◌∙◌, arith}
+use Rattle.std.proofs.Common.{take, refl, arith}
 use Rattle.binary_heap.proofs.Heaps.{empty_sound}
 use Rattle.binary_heap.proofs.heap.BinaryHeap.new.Goals as goal
 

@@ -1,4 +1,4 @@
-use Rattle.std.proofs.Common.{◌≡◌, ◌<◌, min, [], length, sym, refl, arith}
+use Rattle.std.proofs.Common.{◌<◌, min, [], length, sym, refl, arith}
 use Rattle.event_queue.specs.declared.refusal.Refusal.TheVariants.{NoSuchTicket}
 use Rattle.event_queue.proofs.Laws.{accepted_below}
 use Rattle.binary_heap.proofs.Methods.{key_64}

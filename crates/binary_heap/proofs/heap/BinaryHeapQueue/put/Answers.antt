@@ -1,12 +1,10 @@
-use Rattle.std.proofs.Common.{◌≡◌, ◌<◌, ◌≤◌, min, true, false, [], ◌∷◌, length, take, is_some, Some, None, sym, refl, ap, ◌∙◌, subst, arith}
-use Rattle.event_queue.specs.Refusals.{◌when◌}
+use Rattle.std.proofs.Common.{◌<◌, min, [], length, take, is_some, Some, refl, ap, ◌∙◌, arith}
 use Rattle.event_queue.specs.declared.refusal.Refusal.TheVariants.{NoSuchTicket, TicketHeld}
-use Rattle.event_queue.proofs.Laws.{accepted_below, refused_past, put_accepted, topmost_true}
-use Rattle.event_queue.proofs.Orders.{Total, all_later}
+use Rattle.event_queue.proofs.Laws.{accepted_below, put_accepted, topmost_true}
 use Rattle.binary_heap.specs.Meanings.{heap_meaning}
 use Rattle.binary_heap.specs.Slots.{columns, key_of}
 use Rattle.binary_heap.proofs.Heaps.{keyed_others}
-use Rattle.binary_heap.proofs.Methods.{key_64, held_64, capacity_64, there_64}
+use Rattle.binary_heap.proofs.Methods.{key_64, capacity_64, there_64}
 use Rattle.binary_heap.proofs.heap.BinaryHeapQueue.put.Goals as goal
 
 pub returns-in-Some : goal.returns-in-Some

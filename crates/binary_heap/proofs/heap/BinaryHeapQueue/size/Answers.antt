@@ -1,4 +1,4 @@
-use Rattle.std.proofs.Common.{◌≡◌, refl, ap, ◌∙◌}
+use Rattle.std.proofs.Common.{refl, ap, ◌∙◌}
 use Rattle.event_queue.specs.Queues.{count_below}
 use Rattle.event_queue.proofs.Fronts.{length_64}
 use Rattle.binary_heap.proofs.heap.BinaryHeapQueue.size.Goals as goal

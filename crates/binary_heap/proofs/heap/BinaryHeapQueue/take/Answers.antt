@@ -1,14 +1,8 @@
-use Rattle.std.proofs.Common.{◌≡◌, ◌<◌, ◌≤◌, min, true, false, [], ◌∷◌, length, take, drop, is_some, Some, None, sym, refl, ap, ◌∙◌, subst, arith}
-use Rattle.event_queue.specs.Refusals.{◌when◌}
-use Rattle.event_queue.specs.declared.refusal.Refusal.TheVariants.{NoSuchTicket, TicketHeld}
-use Rattle.event_queue.proofs.Laws.{accepted_below, refused_past, put_accepted, topmost_true}
-use Rattle.event_queue.proofs.Orders.{Total, all_later}
-use Rattle.binary_heap.specs.Meanings.{heap_meaning}
-use Rattle.binary_heap.specs.Slots.{columns, key_of}
+use Rattle.std.proofs.Common.{take, drop, None, sym, refl, ap, ◌∙◌}
+use Rattle.event_queue.proofs.Orders.{all_later}
 use Rattle.binary_heap.proofs.Heaps.{keyed_others}
-use Rattle.binary_heap.proofs.Methods.{key_64, held_64, capacity_64, there_64}
+use Rattle.binary_heap.proofs.Methods.{held_64, capacity_64, there_64}
 use borrow.Rule.Slice.Mut.{set_vals}
-use Rattle.binary_heap.specs.declared.heap.BinaryHeap.{BinaryHeap}
 use Rattle.event_queue.proofs.Options.{some_none}
 use Rattle.binary_heap.proofs.Parts.{carry_removed}
 use Rattle.binary_heap.proofs.heap.BinaryHeapQueue.take.Goals as goal

@@ -1,4 +1,4 @@
-use Rattle.std.proofs.Common.{◌≡◌, ℕ, ◌<◌, length, refl, arith, rules}
+use Rattle.std.proofs.Common.{◌<◌, length, refl, arith, rules}
 use Rattle.std.proofs.lemmas.List.{take_more_set}
 use Rattle.kinetic.proofs.numbers.Numbers.push.Goals as goal
 

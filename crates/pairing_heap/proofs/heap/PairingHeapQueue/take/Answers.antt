@@ -1,7 +1,6 @@
 use Rattle.std.proofs.Common.{◌-◌, take, drop, None, sym, refl, ap, ◌∙◌, subst}
 use borrow.Rule.Slice.Mut.{set_vals}
 use Rattle.event_queue.proofs.Orders.{all_later}
-use Rattle.pairing_heap.specs.declared.heap.PairingHeap.{PairingHeap}
 use Rattle.pairing_heap.specs.Sound.{Sound}
 use Rattle.pairing_heap.proofs.Changes.{keyed_others}
 use Rattle.pairing_heap.proofs.Methods.{held_64, capacity_64, there_64}

@@ -1,4 +1,4 @@
-use Rattle.std.proofs.Common.{◌≡◌, sym, refl, subst}
+use Rattle.std.proofs.Common.{sym, refl, subst}
 use Rattle.fairway.proofs.Sorting.{order_is}
 use Rattle.sorted_list.specs.Questions.{InOrder}
 use Rattle.sorted_list.specs.RostersLemmas.{well_apart}

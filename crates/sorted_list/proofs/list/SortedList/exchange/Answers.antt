@@ -1,4 +1,4 @@
-use Rattle.std.proofs.Common.{ℕ, suc, ◌+◌, ◌-◌, ◌<◌, ◌≤◌, length, arith, rules}
+use Rattle.std.proofs.Common.{arith}
 use Rattle.sorted_list.proofs.Changes.{passed}
 use Rattle.sorted_list.proofs.list.SortedList.exchange.Goals as goal
 

@@ -1,7 +1,5 @@
-use Rattle.std.proofs.Common.{◌≡◌, ℕ, suc, ◌+◌, ◌<◌, ◌≤◌, length, get_or, Some, None, sym, refl, ap, ◌∙◌, add-one, arith, rules}
+use Rattle.std.proofs.Common.{◌≡◌, suc, ◌+◌, ◌<◌, length, get_or, Some, sym, ap, ◌∙◌, add-one, arith}
 use Rattle.std.proofs.lemmas.List.{get_or_default}
-use Rattle.fairway.specs.declared.course.Course.{Course}
-use Rattle.sorted_list.specs.Rosters.{certificate_at}
 use Rattle.sorted_list.specs.RostersLemmas.{cert_is, cert_past}
 use Rattle.sorted_list.proofs.structure.SortedListStructure.certificate.Goals as goal
 use Rattle.sorted_list.proofs.structure.SortedListStructure.certificate.Goals.{else-number-lt63-via-then-number-lt63+else-number-len, else-number-lt63-via-else-number-lt63}

@@ -1,6 +1,5 @@
-use Rattle.std.proofs.Common.{◌≡◌, ℕ, ◌+◌, ◌<◌, ◌≤◌, Bool, true, false, length, get_or, Some, None, sym, refl, ap, ◌∙◌, subst, arith, rules}
+use Rattle.std.proofs.Common.{◌≡◌, ◌+◌, ◌<◌, length, get_or, None, sym, refl, ap, ◌∙◌, arith, rules}
 use Rattle.fairway.specs.Stamps.{time_of}
-use Rattle.fairway.specs.declared.course.Course.{Course}
 use Rattle.fairway.specs.StampsLemmas.{proper}
 use Rattle.kinetic.specs.Numbers.{listed}
 use Rattle.kinetic.specs.Structures.{Meaning}

@@ -1,4 +1,4 @@
-use Rattle.std.proofs.Common.{◌≡◌, ℕ, suc, ◌+◌, ◌-◌, ◌<◌, ◌≤◌, List, [], ◌∷◌, length, get_or, Some, None, sym, refl, ap, ◌∙◌, arith, rules}
+use Rattle.std.proofs.Common.{◌≡◌, ℕ, ◌+◌, ◌-◌, List, [], ◌∷◌, length, get_or, Some, ap, ◌∙◌, arith}
 use Rattle.fairway.specs.declared.course.Course.{Course}
 use Rattle.sorted_list.specs.Rosters.{last_number}
 use Rattle.sorted_list.specs.RostersLemmas.{last_is}

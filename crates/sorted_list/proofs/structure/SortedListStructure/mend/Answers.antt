@@ -1,4 +1,4 @@
-use Rattle.std.proofs.Common.{◌≡◌, ◌+◌, ◌<◌, true, arith, rules}
+use Rattle.std.proofs.Common.{◌+◌, ◌<◌, true, arith, rules}
 use Rattle.fairway.specs.Stamps.{time_of}
 use Rattle.kinetic.specs.Numbers.{listed}
 use Rattle.kinetic.specs.Structures.{Meaning}
