@@ -1,6 +1,6 @@
 -- What each call does to a board.
 use Rattle.std.specs.Prelude.{◌≡◌, ℕ, ◌+◌, ◌≤◌, Bool, true, false, List, [], ◌∷◌, length, take, Some, None, Ok, Err, Option, Result, ◌≢◌}
-use Rattle.std.specs.List.{AllByRecursion as All}
+use Rattle.std.specs.List.{AllByRecursion}
 use Rattle.std.specs.List.Sorted.{IsSortedWithin}
 use Rattle.event_queue.specs.Queues as queues
 use Rattle.fairway.specs.Instants.{stamp_of}
@@ -50,7 +50,7 @@ module _ {S Q : Type 0} (m : structures.Meaning S) (n : queues.Meaning Q Stamp) 
     pub total : b'.total ≡ b.total + mends
     pub counted : length rows ≡ mends
     pub few : m.load b'.structure + mends ≤ m.load b.structure
-    pub each : All (RowRight (m.roster b.structure) (stamp_of b.clock) to) rows
+    pub each : AllByRecursion (RowRight (m.roster b.structure) (stamp_of b.clock) to) rows
     pub in_time : InTime rows
     pub last : Stamp
     pub passings : Passings m (stamp_of b.clock) to b.structure last rows b'.structure

@@ -1,6 +1,6 @@
 -- Rosters as lists of courses.
 use Rattle.std.proofs.Common.{◌≡◌, ℕ, cond, eqb, ◌≢◌, List, [], ◌∷◌, Some, None, sym, refl, ap, ◌∙◌, subst, inl, inr, ⊎_elim}
-use Rattle.std.specs.List.{AllByRecursion as All}
+use Rattle.std.specs.List.{AllByRecursion}
 use Rattle.std.proofs.lemmas.Bool.{eqb-true, eqb-false, eq-eqb, ne_eqb, cond-true, cond-false, cond_both, cases_Bool}
 use Rattle.fairway.specs.declared.course.Course.{Course}
 use Rattle.fairway.specs.Orders.{Holds, Same, Apart}
@@ -22,11 +22,11 @@ of_found (x ∷ xs) n c e =
     (λ t. let k = of_found xs n c (sym (cond-false (eqb x.number n) (Some x) (course_of xs n) t) ∙ e) in (inr k.0, k.1))
     (cases_Bool (eqb x.number n))
 
-pub absent : (n : ℕ) (xs : List Course) → All (λ y. n ≢ y.number) xs → course_of xs n ≡ None
+pub absent : (n : ℕ) (xs : List Course) → AllByRecursion (λ y. n ≢ y.number) xs → course_of xs n ≡ None
 absent n [] h = refl
 absent n (x ∷ xs) h = cond-false (eqb x.number n) (Some x) (course_of xs n) (ne_eqb x.number n (λ q. h.0 (sym q))) ∙ absent n xs h.1
 
-pub of_absent : (n : ℕ) (xs : List Course) → course_of xs n ≡ None → All (λ y. n ≢ y.number) xs
+pub of_absent : (n : ℕ) (xs : List Course) → course_of xs n ≡ None → AllByRecursion (λ y. n ≢ y.number) xs
 of_absent n [] e = tt
 of_absent n (x ∷ xs) e =
     ⊎_elim
@@ -42,9 +42,9 @@ pub same_from : (xs ys : List Course) → Apart xs → Apart ys → ((n : ℕ) �
 same_from xs ys a b h c = (same_half xs ys a h c, same_half ys xs b (λ n. sym (h n)) c)
 
 -- ---- one vessel less
-pub all_without : (P : Course → Type 0) (n : ℕ) (xs : List Course) → All P xs → All P (without n xs)
+pub all_without : (P : Course → Type 0) (n : ℕ) (xs : List Course) → AllByRecursion P xs → AllByRecursion P (without n xs)
 all_without P n [] h = tt
-all_without P n (x ∷ xs) h = cond_both (eqb x.number n) xs (x ∷ without n xs) (All P) (λ t. h.1) (λ t. (h.0, all_without P n xs h.1))
+all_without P n (x ∷ xs) h = cond_both (eqb x.number n) xs (x ∷ without n xs) (AllByRecursion P) (λ t. h.1) (λ t. (h.0, all_without P n xs h.1))
 
 pub apart_without : (n : ℕ) (xs : List Course) → Apart xs → Apart (without n xs)
 apart_without n [] a = tt
@@ -55,7 +55,7 @@ absent_without n [] a = refl
 absent_without n (x ∷ xs) a =
     let ih = absent_without n xs a.1 in
     cond_both (eqb x.number n) xs (x ∷ without n xs) (λ l. course_of l n ≡ None)
-    (λ t. absent n xs (subst (λ k. All (λ y. k ≢ y.number) xs) (eqb-true x.number n t) a.0))
+    (λ t. absent n xs (subst (λ k. AllByRecursion (λ y. k ≢ y.number) xs) (eqb-true x.number n t) a.0))
     (λ t. cond-false (eqb x.number n) (Some x) (course_of (without n xs) n) t ∙ ih)
 
 pub roster_without : (n : ℕ) (xs : List Course) (k : ℕ) → (k ≡ n → ⊥) → course_of (without n xs) k ≡ course_of xs k
@@ -68,17 +68,17 @@ roster_without n (x ∷ xs) k h =
 
 -- ---- one vessel altered
 module _ (f : Course → Course) (keeps : (c : Course) → (f c).number ≡ c.number) where
-  all_altered : (P : ℕ → Type 0) (n : ℕ) (xs : List Course) → All (λ y. P y.number) xs → All (λ y. P y.number) (altered f n xs)
+  all_altered : (P : ℕ → Type 0) (n : ℕ) (xs : List Course) → AllByRecursion (λ y. P y.number) xs → AllByRecursion (λ y. P y.number) (altered f n xs)
   all_altered P n [] h = tt
   all_altered P n (x ∷ xs) h =
-      cond_both (eqb x.number n) (f x ∷ xs) (x ∷ altered f n xs) (All (λ y. P y.number))
+      cond_both (eqb x.number n) (f x ∷ xs) (x ∷ altered f n xs) (AllByRecursion (λ y. P y.number))
       (λ t. (subst P (sym (keeps x)) h.0, h.1)) (λ t. (h.0, all_altered P n xs h.1))
 
   pub apart_altered : (n : ℕ) (xs : List Course) → Apart xs → Apart (altered f n xs)
   apart_altered n [] a = tt
   apart_altered n (x ∷ xs) a =
       cond_both (eqb x.number n) (f x ∷ xs) (x ∷ altered f n xs) Apart
-      (λ t. (subst (λ k. All (λ y. k ≢ y.number) xs) (sym (keeps x)) a.0, a.1))
+      (λ t. (subst (λ k. AllByRecursion (λ y. k ≢ y.number) xs) (sym (keeps x)) a.0, a.1))
       (λ t. (all_altered (λ k. x.number ≢ k) n xs a.0, apart_altered n xs a.1))
 
   pub same_altered : (n : ℕ) (xs : List Course) → course_of (altered f n xs) n ≡ changed_by f (course_of xs n)

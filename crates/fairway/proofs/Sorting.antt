@@ -1,6 +1,6 @@
 -- The order of a roster.
 use Rattle.std.proofs.Common.{◌≡◌, ℕ, ◌+◌, Bool, true, false, cond, ◌≢◌, List, [], ◌∷◌, sym, refl, ap, ◌∙◌, subst, inl, inr, ⊎_elim, arith}
-use Rattle.std.specs.List.{AllByRecursion as All}
+use Rattle.std.specs.List.{AllByRecursion}
 use Rattle.std.proofs.ByRecursion.{All-weaker}
 use Rattle.std.proofs.lemmas.Bool.{cond_both, cond-true, cond-false, both_ways}
 use Rattle.fairway.specs.Times.{Time, Proper}
@@ -27,12 +27,12 @@ other t pr u w n h =
     ⊎_elim (λ i. absurd (both_ways (behind t u w) h i)) (λ i. i) (differ t pr u w n)
 
 -- ---- put and order keep what holds of each, the sum over all, and who is there
-pub all_put : (P : Course → Type 0) (t : Time) (x : Course) (xs : List Course) → P x → All P xs → All P (put t x xs)
+pub all_put : (P : Course → Type 0) (t : Time) (x : Course) (xs : List Course) → P x → AllByRecursion P xs → AllByRecursion P (put t x xs)
 all_put P t x [] p h = (p, tt)
 all_put P t x (y ∷ ys) p h =
-    cond_both (behind t x y) (x ∷ y ∷ ys) (y ∷ put t x ys) (All P) (λ _. (p, h)) (λ _. (h.0, all_put P t x ys p h.1))
+    cond_both (behind t x y) (x ∷ y ∷ ys) (y ∷ put t x ys) (AllByRecursion P) (λ _. (p, h)) (λ _. (h.0, all_put P t x ys p h.1))
 
-pub all_order : (P : Course → Type 0) (t : Time) (xs : List Course) → All P xs → All P (order t xs)
+pub all_order : (P : Course → Type 0) (t : Time) (xs : List Course) → AllByRecursion P xs → AllByRecursion P (order t xs)
 all_order P t [] h = tt
 all_order P t (x ∷ xs) h = all_put P t x (order t xs) h.0 (all_order P t xs h.1)
 
@@ -70,7 +70,7 @@ same_order t (x ∷ xs) c =
     ((λ h. ⊎_elim inl (λ k. inr (ih.0 k)) (p.0 h)), (λ h. p.1 (⊎_elim inl (λ k. inr (ih.1 k)) h)))
 
 -- ---- the order is sorted
-pub sorted_put : (t : Time) → Proper t → (x : Course) (xs : List Course) → All (λ y. x.number ≢ y.number) xs → Sorted t xs → Sorted t (put t x xs)
+pub sorted_put : (t : Time) → Proper t → (x : Course) (xs : List Course) → AllByRecursion (λ y. x.number ≢ y.number) xs → Sorted t xs → Sorted t (put t x xs)
 sorted_put t pr x [] n s = (tt, tt)
 sorted_put t pr x (y ∷ ys) n s =
     let ih = sorted_put t pr x ys n.1 s.1 in
@@ -84,7 +84,7 @@ sorted_order t pr (x ∷ xs) a =
     sorted_put t pr x (order t xs) (all_order (λ y. x.number ≢ y.number) t xs a.0) (sorted_order t pr xs a.1)
 
 -- ---- and there is no other
-pub held : (P : Course → Type 0) (xs : List Course) (c : Course) → All P xs → Holds xs c → P c
+pub held : (P : Course → Type 0) (xs : List Course) (c : Course) → AllByRecursion P xs → Holds xs c → P c
 held P [] c a h = absurd h
 held P (x ∷ xs) c a (inl e) = subst P e a.0
 held P (x ∷ xs) c a (inr h) = held P xs c a.1 h

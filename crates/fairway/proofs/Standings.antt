@@ -1,6 +1,6 @@
 -- A list that stands.
 use Rattle.std.proofs.Common.{◌≡◌, true, List, [], ◌∷◌, ◌≤ℤ◌, inl, inr, ⊎_elim, arith}
-use Rattle.std.specs.List.{AllByRecursion as All}
+use Rattle.std.specs.List.{AllByRecursion}
 use Rattle.std.proofs.ByRecursion.{All-weaker}
 use Rattle.std.proofs.lemmas.Int.{ints, by_lt_z}
 use Rattle.std.proofs.lemmas.Bool.{cases_Bool, both_ways}
@@ -43,7 +43,7 @@ stands_sorted t xs s n =
     chain t xs (next_to (InOrderOrDue t) (λ r f. Due t r f → ⊥) (λ r f. behind t r f ≡ true) (λ r f h k. ⊎_elim (λ b. b) (λ d. absurd (k d)) h) xs (near t xs s) n)
 
 -- ---- mends
-pub all_exchange : (P : Course → Type 0) {r f : Course} {xs ys : List Course} → Exchange r f xs ys → All P xs → All P ys
+pub all_exchange : (P : Course → Type 0) {r f : Course} {xs ys : List Course} → Exchange r f xs ys → AllByRecursion P xs → AllByRecursion P ys
 all_exchange P here h = (h.1.0, (h.0, h.1.1))
 all_exchange P (there e) h = (h.0, all_exchange P e h.1)
 
@@ -76,7 +76,7 @@ module _ (t u : Time) (pt : Proper t) (pu : Proper u) (later : t ≤ᵗ u) where
   -- places rise along the list
   Rises : List Course → Type 0
   Rises [] = Unit {0}
-  Rises (x ∷ xs) = All (λ y. place u x ≤ℤ place u y) xs × Rises xs
+  Rises (x ∷ xs) = AllByRecursion (λ y. place u x ≤ℤ place u y) xs × Rises xs
 
   rises : (xs : List Course) → Neighbours (λ r f. place u r ≤ℤ place u f) xs → Rises xs
   unfolding Rises
@@ -93,7 +93,7 @@ module _ (t u : Time) (pt : Proper t) (pu : Proper u) (later : t ≤ᵗ u) where
       (λ S. ⊎_elim (λ b. inl (stays x y S t u pt pu later b)) (λ d. absurd (grind (arith, ints))) h)
       (cases_Bool (faster x y))
 
-  all_two : {P Q R : Course → Type 0} → ((y : Course) → P y → Q y → R y) → (ys : List Course) → All P ys → All Q ys → All R ys
+  all_two : {P Q R : Course → Type 0} → ((y : Course) → P y → Q y → R y) → (ys : List Course) → AllByRecursion P ys → AllByRecursion Q ys → AllByRecursion R ys
   all_two f [] p q = tt
   all_two f (y ∷ ys) p q = (f y p.0 q.0, all_two f ys p.1 q.1)
 

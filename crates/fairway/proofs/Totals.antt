@@ -1,6 +1,6 @@
 -- Sums over lists and over the pairs of a list.
 use Rattle.std.proofs.Common.{◌≡◌, ℕ, ◌+◌, Bool, true, false, cond, List, [], ◌∷◌, ◌++◌, map, length, sum_by, filter, refl, ap, ◌∙◌, arith}
-use Rattle.std.specs.List.{flat_map, AllByRecursion as All}
+use Rattle.std.specs.List.{flat_map, AllByRecursion}
 use Rattle.std.proofs.lemmas.List.Sums.{sum_by-cons}
 
 abbrev pub over : {X : Type 0} → (X → ℕ) → List X → ℕ
@@ -29,7 +29,7 @@ module _ {X : Type 0} where
   over_map f h [] = refl
   over_map f h (y ∷ ys) = ap (λ n. f (h y) + n) (over_map f h ys)
 
-  pub over_same : (f g : X → ℕ) (xs : List X) → All (λ x. f x ≡ g x) xs → over f xs ≡ over g xs
+  pub over_same : (f g : X → ℕ) (xs : List X) → AllByRecursion (λ x. f x ≡ g x) xs → over f xs ≡ over g xs
   over_same f g [] h = refl
   over_same f g (x ∷ xs) h = omega (arith, h.0, over_same f g xs h.1)
 
@@ -37,7 +37,7 @@ module _ {X : Type 0} where
   over_all f g h [] = refl
   over_all f g h (x ∷ xs) = omega (arith, h x, over_all f g h xs)
 
-  pub over_none : (f : X → ℕ) (xs : List X) → All (λ x. f x ≡ 0) xs → over f xs ≡ 0
+  pub over_none : (f : X → ℕ) (xs : List X) → AllByRecursion (λ x. f x ≡ 0) xs → over f xs ≡ 0
   over_none f [] h = refl
   over_none f (x ∷ xs) h = omega (arith, h.0, over_none f xs h.1)
 

@@ -1,6 +1,6 @@
 -- The vessels from rear to front, pairs of them, and exchanges of neighbours.
 use Rattle.std.specs.Prelude.{◌≡◌, ℕ, zero, suc, Bool, true, cond, ◌&&◌, ◌≢◌, ◌⊎◌, List, [], ◌∷◌, ◌++◌, map, count_by, filter, ◌==◌}
-use Rattle.std.specs.List.{flat_map, AllByRecursion as All}
+use Rattle.std.specs.List.{flat_map, AllByRecursion}
 use Rattle.fairway.specs.Times.{Time, ◌≤ᵗ◌, ◌<ᵗ◌}
 use Rattle.fairway.specs.Courses.{faster, Due}
 use Rattle.fairway.specs.Behind.{behind}
@@ -18,12 +18,12 @@ Same xs ys = (c : Course) → (Holds xs c → Holds ys c) × (Holds ys c → Hol
 -- no two have one number
 abbrev pub Apart : List Course → Type 0
 Apart [] = Unit {0}
-Apart (x ∷ xs) = All (λ y. x.number ≢ y.number) xs × Apart xs
+Apart (x ∷ xs) = AllByRecursion (λ y. x.number ≢ y.number) xs × Apart xs
 
 -- from rear to front at t: each is behind all that come after it
 abbrev pub Sorted : Time → List Course → Type 0
 Sorted t [] = Unit {0}
-Sorted t (x ∷ xs) = All (λ y. behind t x y ≡ true) xs × Sorted t xs
+Sorted t (x ∷ xs) = AllByRecursion (λ y. behind t x y ≡ true) xs × Sorted t xs
 
 -- x put in its place, and the order of a roster
 abbrev pub put : Time → Course → List Course → List Course

@@ -1,6 +1,6 @@
 -- A list that stands: what lets certificates of neighbours alone keep it right.
 use Rattle.std.specs.Prelude.{◌≡◌, true, ◌⊎◌, List, [], ◌∷◌, pos, ◌-ℤ◌, ◌*ℤ◌, ◌≤ℤ◌}
-use Rattle.std.specs.List.{AllByRecursion as All}
+use Rattle.std.specs.List.{AllByRecursion}
 use Rattle.fairway.specs.Times.{Time, Proper, ◌≤ᵗ◌}
 use Rattle.fairway.specs.Courses.{faster, Due}
 use Rattle.fairway.specs.Behind.{behind}
@@ -13,7 +13,7 @@ InOrderOrDue t r f = (behind t r f ≡ true) ⊎ Due t r f
 -- every two, neighbours or not, are in order or due
 abbrev pub Stands : Time → List Course → Type 0
 Stands t [] = Unit {0}
-Stands t (x ∷ xs) = All (InOrderOrDue t x) xs × Stands t xs
+Stands t (x ∷ xs) = AllByRecursion (InOrderOrDue t x) xs × Stands t xs
 
 -- P of each two neighbours
 abbrev pub Neighbours : (Course → Course → Type 0) → List Course → Type 0

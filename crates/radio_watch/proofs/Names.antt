@@ -1,16 +1,16 @@
 -- What the words of a line say, by the name that the first one is equal to.
-use Rattle.std.proofs.Common.{◌≡◌, ℕ, Bool, true, false, List, Some, codes, Decides, sym, ap, ◌∙◌, rules}
+use Rattle.std.proofs.Common.{◌≡◌, ℕ, eqb, Bool, true, false, List, Some, codes, sym, ap, ◌∙◌, rules}
 use Rattle.std.proofs.lemmas.Slice.Eq.{slice_eq-Decides, compares_Decides}
 use Rattle.std.proofs.lemmas.Bool.{cond-true, cond-false}
 use Rattle.std.proofs.lemmas.Bool.Decides.{same_from_decides, Decides-eqb}
-use Rattle.std.specs.Cmp.Lexicographic.{Matches}
+use Rattle.std.specs.Cmp.Lexicographic.{pointwise}
 use Rattle.call_sheet.specs.declared.call.Call.TheVariants.{Await, Heard, Overdue}
 use Rattle.radio_watch.specs.declared.entry.Reading.TheVariants.{Asks, Unknown}
 use Rattle.radio_watch.specs.Script.{same_bytes, number, one_number, of_two, of_three}
 
 -- what `==` on slices of bytes says of its answer r
 abbrev Compared : List ℕ → List ℕ → Bool → Type 0
-Compared name w r = Matches (λ (a b : ℕ) (t : Bool). Decides t (a ≡ b)) name w r
+Compared name w r = r ≡ pointwise eqb name w
 
 -- and it answers as `same_bytes` does
 named : (name w : List ℕ) (r s : Bool) → Compared name w r → r ≡ s → same_bytes name w ≡ s

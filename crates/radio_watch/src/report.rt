@@ -14,7 +14,7 @@ fn write_refused<W: fmt::Write>(
     refusal: &Refusal,
     f: &mut fmt::Formatter<W>,
 ) -> fmt::Result
-    ensures { WritesOnOk write_str_gives f.old result (refused_text line refusal.now) f.new }
+    ensures { WritesOnOk W.write_str_gives f.old result (refused_text line refusal.now) f.new }
 {
     let number = refusal.number();
     match refusal {
@@ -24,7 +24,7 @@ fn write_refused<W: fmt::Write>(
 
 // Writes what a call sheet answered to a call.
 fn write_event<W: fmt::Write>(event: &Event, f: &mut fmt::Formatter<W>) -> fmt::Result
-    ensures { WritesOnOk write_str_gives f.old result (event_text event.now) f.new }
+    ensures { WritesOnOk W.write_str_gives f.old result (event_text event.now) f.new }
 {
     match *event {
         Event::OnAwait {

@@ -1,6 +1,6 @@
 -- The courses beside a vessel's in a list with no number twice.
 use Rattle.std.proofs.Common.{◌≡◌, ℕ, zero, suc, ◌+◌, ◌-◌, ◌<◌, ◌≤◌, true, eqb, ◌≢◌, List, [], ◌∷◌, length, get_or, Some, None, sym, refl, ap, ◌∙◌, add-one, arith}
-use Rattle.std.specs.List.{AllByRecursion as All}
+use Rattle.std.specs.List.{AllByRecursion}
 use Rattle.std.proofs.lemmas.List.{get_or_default}
 use Rattle.std.proofs.ByRecursion.{All-get_or}
 use Rattle.std.proofs.lemmas.Bool.{eq-eqb, ne_eqb, cond-true, cond-false}
@@ -11,7 +11,7 @@ use Rattle.sorted_list.specs.Rosters.{course_of, well, next_after, next_before}
 use Rattle.sorted_list.specs.RostersLemmas.{of_found, well_apart}
 
 -- a number that none has
-unlike : (m : ℕ) (ys : List Course) (j : ℕ) (d : Course) → All (λ y. m ≢ y.number) ys → j < length ys → (get_or ys j d).number ≡ m → ⊥
+unlike : (m : ℕ) (ys : List Course) (j : ℕ) (d : Course) → AllByRecursion (λ y. m ≢ y.number) ys → j < length ys → (get_or ys j d).number ≡ m → ⊥
 unlike m ys j d a h e = All-get_or (λ y. m ≢ y.number) ys j d h a (sym e)
 
 after_some : (n : ℕ) (xs : List Course) (i : ℕ) (d : Course) → Apart xs → suc i < length xs → (get_or xs i d).number ≡ n → next_after n xs ≡ Some (get_or xs (suc i) d)
@@ -36,7 +36,7 @@ before_some n (x ∷ y ∷ ys) (suc i) d a h e =
     cond-false (eqb y.number n) (Some x) (next_before n (y ∷ ys)) (ne_eqb y.number n (λ z. unlike y.number ys i d a.1.0 (omega arith) (e ∙ sym z))) ∙ before_some n (y ∷ ys) i d a.1 (omega arith) e
 
 -- nothing stands before one whose number none after it has
-before_unseen : (n : ℕ) (x : Course) (ys : List Course) → All (λ y. n ≢ y.number) ys → next_before n (x ∷ ys) ≡ None
+before_unseen : (n : ℕ) (x : Course) (ys : List Course) → AllByRecursion (λ y. n ≢ y.number) ys → next_before n (x ∷ ys) ≡ None
 before_unseen n x [] a = refl
 before_unseen n x (y ∷ ys) a = cond-false (eqb y.number n) (Some x) (next_before n (y ∷ ys)) (ne_eqb y.number n (λ z. a.0 (sym z))) ∙ before_unseen n y ys a.1
 

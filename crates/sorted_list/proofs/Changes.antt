@@ -1,6 +1,6 @@
 -- Lists through an exchange, an insert and a remove, and the searches for a place.
 use Rattle.std.proofs.Common.{◌≡◌, ℕ, zero, suc, ◌+◌, ◌<◌, ◌≤◌, Bool, true, false, cond, eqb, ◌≢◌, List, [], ◌∷◌, ◌++◌, length, get_or, take, drop, set, Some, None, sym, refl, ap, ◌∙◌, subst, inl, ⊎_elim, add-one, arith, length-set, get_or-set_other}
-use Rattle.std.specs.List.{remove, insert, swap, AllByRecursion as All}
+use Rattle.std.specs.List.{remove, insert, swap, AllByRecursion}
 use Rattle.std.proofs.lemmas.List.Edits.{swap_is, length-insert, length-remove, get_or-insert_below, get_or-insert_above, get_or-remove_below, get_or-remove_above}
 use Rattle.std.proofs.lemmas.List.{drop_more, take_more, drop_all, get_or_default, append_assoc}
 use Rattle.std.proofs.ByRecursion.{All-weaker}
@@ -82,7 +82,7 @@ passed (x ∷ xs) ys i h e F w =
     (to_well ys (all_exchange Fits X (well_ranged (x ∷ xs) w)) (apart_exchange X (well_apart (x ∷ xs) w)), omega (arith, (loses_one r f (x ∷ xs) ys (F r f c) X).1))
 
 -- ---- one put in
-apart_put : (t : Time) (x : Course) (xs : List Course) → All (λ y. x.number ≢ y.number) xs → Apart xs → Apart (put t x xs)
+apart_put : (t : Time) (x : Course) (xs : List Course) → AllByRecursion (λ y. x.number ≢ y.number) xs → Apart xs → Apart (put t x xs)
 apart_put t x [] n a = (tt, tt)
 apart_put t x (y ∷ ys) n a =
     let ih = apart_put t x ys n.1 a.1 in
@@ -112,7 +112,7 @@ length_put t x (y ∷ ys) =
     cond_both (behind t x y) (x ∷ y ∷ ys) (y ∷ put t x ys) (λ l. length l ≡ length (y ∷ ys) + 1) (λ _. omega arith) (λ _. omega (arith, ih))
 
 -- ---- one taken out
-all_removed : (P : Course → Type 0) (xs : List Course) (i : ℕ) → All P xs → All P (remove xs i)
+all_removed : (P : Course → Type 0) (xs : List Course) (i : ℕ) → AllByRecursion P xs → AllByRecursion P (remove xs i)
 all_removed P [] zero h = tt
 all_removed P [] (suc i) h = tt
 all_removed P (x ∷ xs) zero h = h.1
@@ -143,11 +143,11 @@ roster_without n (x ∷ xs) k h =
     (λ t. sym (cond-false (eqb x.number k) (Some x) (course_of xs k) (ne_eqb x.number k (λ q. h (sym q ∙ eqb-true x.number n t)))))
     (λ t. ap (λ o. cond (eqb x.number k) (Some x) o) ih)
 
-all_without : (P : Course → Type 0) (n : ℕ) (xs : List Course) → All P xs → All P (without n xs)
+all_without : (P : Course → Type 0) (n : ℕ) (xs : List Course) → AllByRecursion P xs → AllByRecursion P (without n xs)
 all_without P n [] h = tt
 all_without P n (x ∷ xs) h =
     let ih = all_without P n xs h.1 in
-    cond_both (eqb x.number n) xs (x ∷ without n xs) (All P) (λ _. h.1) (λ _. (h.0, ih))
+    cond_both (eqb x.number n) xs (x ∷ without n xs) (AllByRecursion P) (λ _. h.1) (λ _. (h.0, ih))
 
 pub sorted_without : (t : Time) (n : ℕ) (xs : List Course) → Sorted t xs → Sorted t (without n xs)
 sorted_without t n [] s = tt

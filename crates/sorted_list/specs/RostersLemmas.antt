@@ -1,7 +1,7 @@
 -- Lists of courses as rosters, their neighbours as certificates.
 use Rattle.std.specs.Prelude.{◌≡◌, ℕ, zero, suc, ◌<◌, ◌≤◌, true, not, ◌&&◌, ◌≢◌, ◌⊎◌, List, [], ◌∷◌, length, Some, None, ◌==◌, nat_lt, slice_index_or, refl}
 use Rattle.std.proofs.Common.{sym, ap, subst, ◌∙◌, inl, inr, ⊎_elim, arith}
-use Rattle.std.specs.List.{AllByRecursion as All}
+use Rattle.std.specs.List.{AllByRecursion}
 use Rattle.std.proofs.lemmas.Bool.{and_parts, and_from, ltb-true, lt-ltb, eqb-true, eqb-false, eq-eqb, ne_eqb, not-true, not_from_false, cond-true, cond-false, cases_Bool}
 use Rattle.event_queue.proofs.Options.{none_some, some_same}
 use Rattle.fairway.specs.declared.course.Course.{Course}
@@ -35,18 +35,18 @@ of_fits c f =
     and_from (nat_lt 0 c.number) (nat_lt c.number 65536 && not (out_of_range c)) (lt-ltb 0 c.number f.in_range.numbered)
     (and_from (nat_lt c.number 65536) (not (out_of_range c)) (lt-ltb c.number 65536 f.number) (not_from_false (out_of_range c) (of_range c f.in_range)))
 
-pub fresh_all : (n : ℕ) (xs : List Course) → fresh n xs ≡ true → All (λ y. n ≢ y.number) xs
+pub fresh_all : (n : ℕ) (xs : List Course) → fresh n xs ≡ true → AllByRecursion (λ y. n ≢ y.number) xs
 fresh_all n [] e = tt
 fresh_all n (y ∷ ys) e =
     let a = and_parts (not (y.number == n)) (fresh n ys) e in
     (λ q. eqb-false y.number n (not-true (y.number == n) a.0) (sym q), fresh_all n ys a.1)
 
-pub all_fresh : (n : ℕ) (xs : List Course) → All (λ y. n ≢ y.number) xs → fresh n xs ≡ true
+pub all_fresh : (n : ℕ) (xs : List Course) → AllByRecursion (λ y. n ≢ y.number) xs → fresh n xs ≡ true
 all_fresh n [] h = refl
 all_fresh n (y ∷ ys) h =
     and_from (not (y.number == n)) (fresh n ys) (not_from_false (y.number == n) (ne_eqb y.number n (λ q. h.0 (sym q)))) (all_fresh n ys h.1)
 
-pub well_ranged : (xs : List Course) → well xs ≡ true → All Fits xs
+pub well_ranged : (xs : List Course) → well xs ≡ true → AllByRecursion Fits xs
 well_ranged [] e = tt
 well_ranged (x ∷ xs) e =
     let a = and_parts (allowed x && fresh x.number xs) (well xs) e in
@@ -61,7 +61,7 @@ well_apart (x ∷ xs) e =
 pub well_rest : (x : Course) (xs : List Course) → well (x ∷ xs) ≡ true → well xs ≡ true
 well_rest x xs e = (and_parts (allowed x && fresh x.number xs) (well xs) e).1
 
-pub to_well : (xs : List Course) → All Fits xs → Apart xs → well xs ≡ true
+pub to_well : (xs : List Course) → AllByRecursion Fits xs → Apart xs → well xs ≡ true
 to_well [] r a = refl
 to_well (x ∷ xs) r a =
     and_from (allowed x && fresh x.number xs) (well xs)
@@ -82,11 +82,11 @@ of_found (x ∷ xs) n c e =
     (λ t. let k = of_found xs n c (sym (cond-false (x.number == n) (Some x) (course_of xs n) t) ∙ e) in (inr k.0, k.1))
     (cases_Bool (x.number == n))
 
-pub absent : (n : ℕ) (xs : List Course) → All (λ y. n ≢ y.number) xs → course_of xs n ≡ None
+pub absent : (n : ℕ) (xs : List Course) → AllByRecursion (λ y. n ≢ y.number) xs → course_of xs n ≡ None
 absent n [] h = refl
 absent n (x ∷ xs) h = cond-false (x.number == n) (Some x) (course_of xs n) (ne_eqb x.number n (λ q. h.0 (sym q))) ∙ absent n xs h.1
 
-pub of_absent : (n : ℕ) (xs : List Course) → course_of xs n ≡ None → All (λ y. n ≢ y.number) xs
+pub of_absent : (n : ℕ) (xs : List Course) → course_of xs n ≡ None → AllByRecursion (λ y. n ≢ y.number) xs
 of_absent n [] e = tt
 of_absent n (x ∷ xs) e =
     ⊎_elim
