@@ -1,9 +1,8 @@
 -- The text that is written of each entry.
-use Rattle.std.specs.Prelude.{ℕ, Bool, true, false, List, [], ◌∷◌, ◌++◌, Some, None, Ok, Err, codes, decimal}
+use Rattle.std.specs.Prelude.{ℕ, true, false, List, [], ◌∷◌, ◌++◌, Some, None, Ok, Err, codes, decimal}
 use Rattle.call_sheet.specs.Lines.{refusal_number}
 use Rattle.call_sheet.specs.declared.call.Event.{Event}
 use Rattle.call_sheet.specs.declared.call.Event.TheVariants.{OnAwait, OnHeard, OnOverdue}
-use Rattle.call_sheet.specs.declared.call.Hail.{Hail}
 use Rattle.call_sheet.specs.declared.refusal.Refusal.{Refusal}
 use Rattle.call_sheet.specs.declared.refusal.Refusal.TheVariants.{NoSuchLine}
 use Rattle.radio_watch.specs.declared.entry.Entry.{Entry}

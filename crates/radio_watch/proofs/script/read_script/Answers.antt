@@ -4,17 +4,17 @@ use Rattle.radio_watch.specs.Script.{items}
 use Rattle.radio_watch.proofs.Items.{commanded, unreadable, all_read}
 use Rattle.radio_watch.proofs.script.read_script.Goals as goal
 
-pub loop-rest-preserved-in_ok-push : goal.loop-rest-preserved-in_ok-push
-loop-rest-preserved-in_ok-push c = (
+pub loop-rest-preserved-in_ok-push-in-Asks : goal.loop-rest-preserved-in_ok-push-in-Asks
+loop-rest-preserved-in_ok-push-in-Asks c = (
   commanded (vec_items c.loop-rest.found) (items c.args.script.now) c.loop-rest.number c.loop-rest.rest.now c.first_line.result.1.now c.first_line.result.0.now c.first_line.ensures.parts c.loop-rest.invariant.0
-      (vec_items c.push.new.self) c.in-Asks.call c.in_ok-push.ensures.items c.in-Asks.ensures,
+      (vec_items c.push.new.self) c.in-Asks.call c.in_ok-push-in-Asks.ensures.items c.in-Asks.ensures,
   omega arith,
 )
 
 pub loop-rest-preserved : goal.loop-rest-preserved
 loop-rest-preserved c = (
   unreadable (vec_items c.loop-rest.found) (items c.args.script.now) c.loop-rest.number c.loop-rest.rest.now c.first_line.result.1.now c.first_line.result.0.now c.first_line.ensures.parts c.loop-rest.invariant.0
-      (vec_items c.push-in-Unknown.new.self) c.in_ok-push-2.ensures.items c.in-Unknown.ensures,
+      (vec_items c.push-in-Unknown.new.self) c.in_ok-push-in-Unknown.ensures.items c.in-Unknown.ensures,
   omega arith,
 )
 
