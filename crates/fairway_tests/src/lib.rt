@@ -1,3 +1,5 @@
+#![tactic(auto)]
+
 // Examples of the fairway's calls, run.
 #[cfg(test)]
 mod tests {

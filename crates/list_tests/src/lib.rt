@@ -1,3 +1,5 @@
+#![tactic(auto)]
+
 #[cfg(test)]
 mod tests {
     use fairway::course::Course;
@@ -72,7 +74,7 @@ mod tests {
         );
         assert_eq!(rt; refusal_of(list.mend(1, second(1))), 6);
         let named = list.mend(1, second(2))?;
-        assert!(rt; named.as_slice() == [0, 1, 2]);
+        assert!(rt; named.as_slice() == [0, 1, 2].as_slice());
         assert_eq!(rt;
             list.certificate(1),
             Some((vessel(3, 1, 9), vessel(2, 3, 5)))
@@ -88,11 +90,15 @@ mod tests {
         list.enter(vessel(9, 1, 0), second(0))?;
         list.enter(vessel(7, 2, 0), second(0))?;
         list.enter(vessel(5, 1, 0), second(0))?;
-        assert!(rt; list.courses() == [vessel(5, 1, 0), vessel(9, 1, 0), vessel(7, 2, 0)]);
+        assert!(rt;
+            list.courses() == [vessel(5, 1, 0), vessel(9, 1, 0), vessel(7, 2, 0)].as_slice()
+        );
         list.steer(vessel(7, 0, 0), second(0))?;
-        assert!(rt; list.courses() == [vessel(7, 0, 0), vessel(5, 1, 0), vessel(9, 1, 0)]);
+        assert!(rt;
+            list.courses() == [vessel(7, 0, 0), vessel(5, 1, 0), vessel(9, 1, 0)].as_slice()
+        );
         list.leave(5, second(0))?;
-        assert!(rt; list.courses() == [vessel(7, 0, 0), vessel(9, 1, 0)]);
+        assert!(rt; list.courses() == [vessel(7, 0, 0), vessel(9, 1, 0)].as_slice());
         list.clear();
         assert_eq!(rt; list.foremost(), None);
         Ok(())

@@ -1,4 +1,5 @@
 // Examples of what the event queues and the call sheet answer.
+#![tactic(auto)]
 
 #[cfg(test)]
 mod heap;

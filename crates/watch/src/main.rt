@@ -1,3 +1,5 @@
+#![tactic(auto)]
+
 use anyhow::anyhow;
 use binary_heap::cell::Cell;
 use binary_heap::heap::BinaryHeap;
