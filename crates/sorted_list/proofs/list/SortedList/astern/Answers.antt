@@ -1,4 +1,4 @@
-use Rattle.std.proofs.Common.{◌≡◌, ◌<◌, length, get_or, Some, subst, arith}
+use Rattle.std.proofs.Common.{◌≡◌, ◌<◌, length, get_or, Some, subst, arith, rules}
 use Rattle.fairway.specs.declared.course.Course.{Course}
 use Rattle.fairway.proofs.Lists.{nobody}
 use Rattle.kinetic.proofs.Refused.{vessel_known}
@@ -36,6 +36,6 @@ returns c =
     let own : (d : Course) → course_of xs n ≡ Some (get_or xs i d) = λ d. subst (λ l. course_of l n ≡ Some (get_or l i d)) v (f.2 d) in
     record {
       aboard = vessel_known means s n c.if-number-eq0.false (get_or xs i nobody) (own nobody);
-      value = stands_astern xs s.sound n i h own c.index.result.now (let z = c.if-place-eq0.false in omega arith) c.index.ensures;
+      value = search (rules, stands_astern xs s.sound n i h own);
       next = astern_some xs s.sound n i h own c.index.result.now (let z = c.if-place-eq0.false in omega arith) c.index.ensures;
     }
