@@ -1,8 +1,8 @@
 -- The columns of the cells, through a read and a write.
-use Rattle.std.proofs.Common.{◌≡◌, ℕ, ◌<◌, ◌≤◌, List, length, get_or, set, None, Option, refl, ap, ◌∙◌, arith}
+use Rattle.std.proofs.Common.{◌≡◌, ℕ, ◌<◌, ◌≤◌, List, length, get_or, set, Option, refl, ap, ◌∙◌}
 use Rattle.event_queue.proofs.Columns.{map_kept, map_past}
-use Rattle.std.proofs.lemmas.List.{map-set, length-map, get_or-map, get_or_past}
-use Rattle.binary_heap.specs.Slots.{Columns, columns, key_of, slot_of, ticket_at, with_key, with_ticket, with_slot, seated, exchanged}
+use Rattle.std.proofs.lemmas.List.{map-set, length-map, get_or-map}
+use Rattle.binary_heap.specs.Slots.{Columns, columns, ticket_at, with_key, with_ticket, with_slot, seated, exchanged}
 use Rattle.binary_heap.specs.declared.cell.Cell.{Cell}
 
 columns_from : {K : Type 0} {k k' : List (Option K)} {s s' i i' : List ℕ} → k ≡ k' → s ≡ s' → i ≡ i' → ◌≡◌ {A = Columns K} (record { key = k; slot = s; ticket = i }) (record { key = k'; slot = s'; ticket = i' })
@@ -10,61 +10,37 @@ columns_from e f g = rw (e, f, g)
 
 module _ {K : Type 0} (cells : List (Cell K)) where
   pub key_length : length (columns cells).key ≡ length cells
-  unfolding columns
   key_length = length-map cells (λ c. c.key)
 
   pub slot_length : length (columns cells).slot ≡ length cells
-  unfolding columns
   slot_length = length-map cells (λ c. c.slot)
 
   pub ticket_length : length (columns cells).ticket ≡ length cells
-  unfolding columns
   ticket_length = length-map cells (λ c. c.ticket)
 
   module _ (i : ℕ) (d : Cell K) where
     pub key_set : (k : Option K) → columns (set cells i (record { key = k; slot = (get_or cells i d).slot; ticket = (get_or cells i d).ticket })) ≡ with_key (columns cells) i k
-    unfolding columns
     key_set k = columns_from (map-set (λ c. c.key) cells i _) (map_kept (λ c. c.slot) cells i d _ refl) (map_kept (λ c. c.ticket) cells i d _ refl)
 
     pub slot_set : (s : ℕ) → columns (set cells i (record { key = (get_or cells i d).key; slot = s; ticket = (get_or cells i d).ticket })) ≡ with_slot (columns cells) i s
-    unfolding columns
     slot_set s = columns_from (map_kept (λ c. c.key) cells i d _ refl) (map-set (λ c. c.slot) cells i _) (map_kept (λ c. c.ticket) cells i d _ refl)
 
     pub ticket_set : (t : ℕ) → columns (set cells i (record { key = (get_or cells i d).key; slot = (get_or cells i d).slot; ticket = t })) ≡ with_ticket (columns cells) i t
-    unfolding columns
     ticket_set t = columns_from (map_kept (λ c. c.key) cells i d _ refl) (map_kept (λ c. c.slot) cells i d _ refl) (map-set (λ c. c.ticket) cells i _)
 
     module _ (h : i < length cells) where
-      pub key_read : key_of (columns cells) i ≡ (get_or cells i d).key
-      unfolding columns
-      key_read = get_or-map (λ c. c.key) cells i d None h
-
-      pub slot_read : slot_of (columns cells) i ≡ (get_or cells i d).slot
-      unfolding columns
-      slot_read = get_or-map (λ c. c.slot) cells i d 0 h
-
       pub ticket_read : ticket_at (columns cells) i ≡ (get_or cells i d).ticket
-      unfolding columns
       ticket_read = get_or-map (λ c. c.ticket) cells i d 0 h
 
-  -- past the cells there is nothing, and a write does nothing
+  -- a write past the cells does nothing
   module _ (i : ℕ) (h : length cells ≤ i) where
-    pub slot_past : slot_of (columns cells) i ≡ 0
-    slot_past = get_or_past (columns cells).slot i 0 (omega (arith, slot_length))
-
-    pub ticket_past : ticket_at (columns cells) i ≡ 0
-    ticket_past = get_or_past (columns cells).ticket i 0 (omega (arith, ticket_length))
-
     pub key_unset : (k : Option K) → columns cells ≡ with_key (columns cells) i k
-    unfolding columns
     key_unset k = columns_from (map_past (λ c. c.key) cells i k h) refl refl
 
     pub slot_unset : (s : ℕ) → columns cells ≡ with_slot (columns cells) i s
-    unfolding columns
     slot_unset s = columns_from refl (map_past (λ c. c.slot) cells i s h) refl
 
     pub ticket_unset : (t : ℕ) → columns cells ≡ with_ticket (columns cells) i t
-    unfolding columns
     ticket_unset t = columns_from refl refl (map_past (λ c. c.ticket) cells i t h)
 
 pub exchange_columns : {K : Type 0} (t u v : Columns K) (a b x y : ℕ) → x ≡ ticket_at t a → y ≡ ticket_at t b → u ≡ seated t a y → v ≡ seated u b x → v ≡ exchanged t a b

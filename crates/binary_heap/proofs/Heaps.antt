@@ -1,13 +1,11 @@
 -- From the columns to the heap: what a change of one ticket does, and which key comes first.
-use Rattle.std.proofs.Common.{◌≡◌, ℕ, ◌+◌, ◌-◌, ◌<◌, ◌≤◌, Bool, false, ◌≢◌, List, length, get_or, set, is_some, Some, None, Option, sym, refl, ap, ◌∙◌, subst, ⊎_elim, arith}
-use Rattle.std.proofs.lemmas.Bool.{cases_lt}
-use Rattle.std.proofs.lemmas.List.{get_or-set_same, get_or-set_other, length-set}
+use Rattle.std.proofs.Common.{◌≡◌, ℕ, ◌+◌, ◌-◌, ◌<◌, ◌≤◌, Bool, false, List, length, is_some, Some, None, Option, sym, refl, ap, ◌∙◌, subst, arith}
 use Rattle.event_queue.specs.Orders.{sooner}
 use Rattle.event_queue.specs.Queues.{count_below}
 use Rattle.event_queue.proofs.Orders.{Total}
 use Rattle.event_queue.proofs.Counts.{count_none, count_more, count_room, count_some}
 use Rattle.binary_heap.specs.declared.cell.Cell.{Cell}
-use Rattle.binary_heap.specs.Slots.{Columns, columns, key_of, key_past, slot_of, ticket_at, key_at, with_key, seated, Seat, Linked}
+use Rattle.binary_heap.specs.Slots.{Columns, columns, cell_key, key_of, slot_of, ticket_at, key_at, with_key, seated, Seat, Linked}
 use Rattle.binary_heap.specs.Orders.{Upward, Loose}
 use Rattle.binary_heap.specs.Sifts.{Settled}
 use Rattle.binary_heap.specs.Sound.{Sound, Keyed}
@@ -16,20 +14,7 @@ use Rattle.binary_heap.proofs.Sifting.{top_first}
 use Rattle.binary_heap.proofs.Sifts.{cells_even}
 use Rattle.binary_heap.proofs.Seating.{insert_linked, insert_upward, remove_linked, remove_loose, remove_ordered}
 use Rattle.event_queue.proofs.Options.{some_none}
-
--- a ticket that holds a key is one of the cells
-pub held_cell : {K : Type 0} (cells : List (Cell K)) (i : ℕ) (k : K) → key_of (columns cells) i ≡ Some k → i < length cells
-held_cell cells i k e = ⊎_elim (λ h. h) (λ h. absurd (some_none (key_of (columns cells) i) k e (key_past cells i h))) (cases_lt i (length cells))
-
-module _ {K : Type 0} (cells cells' : List (Cell K)) (i : ℕ) (v : Option K) (e : (columns cells').key ≡ set (columns cells).key i v) where
-  pub keyed_length : length cells' ≡ length cells
-  keyed_length = sym (key_length cells') ∙ ap length e ∙ length-set (columns cells).key i v ∙ key_length cells
-
-  pub keyed_there : i < length cells → key_of (columns cells') i ≡ v
-  keyed_there h = ap (λ ks. get_or ks i None) e ∙ get_or-set_same (columns cells).key i v None (omega (arith, key_length cells))
-
-  pub keyed_others : (j : ℕ) → j ≢ i → key_of (columns cells') j ≡ key_of (columns cells) j
-  keyed_others j h = ap (λ ks. get_or ks j None) e ∙ get_or-set_other (columns cells).key i j v None h
+use Rattle.event_queue.proofs.Keyed.{held_cell, keyed_length, keyed_there, keyed_others}
 
 -- how many hold a key
 abbrev holding : {K : Type 0} → List (Cell K) → ℕ → Bool
@@ -52,7 +37,7 @@ module _ {K : Type 0} (before : K → K → Bool) (cells cells' : List (Cell K))
     sound = record {
       linked = z.linked;
       ordered = z.ordered;
-      counted = ap (λ m. m + 1) S.counted ∙ sym (count_more (holding cells) (holding cells') (length cells) i hi (ap is_some free) (ap is_some (keyed_there cells cells' i (Some k) z.keys hi)) (λ j h. ap is_some (keyed_others cells cells' i (Some k) z.keys j h))) ∙ ap (count_below (holding cells')) (sym (keyed_length cells cells' i (Some k) z.keys));
+      counted = ap (λ m. m + 1) S.counted ∙ sym (count_more (holding cells) (holding cells') (length cells) i hi (ap is_some free) (ap is_some (keyed_there cell_key cells cells' i (Some k) z.keys hi)) (λ j h. ap is_some (keyed_others cell_key cells cells' i (Some k) z.keys j h))) ∙ ap (count_below (holding cells')) (sym (keyed_length cell_key cells cells' i (Some k) z.keys));
     };
     keys = z.keys;
   }
@@ -60,7 +45,7 @@ module _ {K : Type 0} (before : K → K → Bool) (cells cells' : List (Cell K))
 -- The ticket i loses the key k.
 module _ {K : Type 0} (before : K → K → Bool) (cells cells' : List (Cell K)) (n i : ℕ) (k : K) (S : Sound before cells n) (held : key_of (columns cells) i ≡ Some k) where
   pub some_held : 0 < n
-  some_held = omega (arith, S.counted, count_some (holding cells) (length cells) i (held_cell cells i k held) (ap is_some held))
+  some_held = omega (arith, S.counted, count_some (holding cells) (length cells) i (held_cell cell_key cells i k held) (ap is_some held))
 
   pub remove_settles : Total before → (u : Columns K) → u ≡ seated (with_key (columns cells) i None) (slot_of (columns cells) i) (ticket_at (columns cells) (n - 1)) → slot_of (columns cells) i < n - 1 → (Linked u (n - 1) → Loose before (key_at u) (n - 1) (slot_of (columns cells) i) → Settled before u (columns cells') (n - 1)) → Settled before (seated (with_key (columns cells) i None) (slot_of (columns cells) i) (ticket_at (columns cells) (n - 1))) (columns cells') (n - 1)
   remove_settles o u e h sift =
@@ -81,9 +66,9 @@ module _ {K : Type 0} (before : K → K → Bool) (cells cells' : List (Cell K))
 
   pub removed : Settled before (seated (with_key (columns cells) i None) (slot_of (columns cells) i) (ticket_at (columns cells) (n - 1))) (columns cells') (n - 1) → Keyed before cells cells' (n - 1) i None
   removed z =
-      let hi = held_cell cells i k held in
-      let more = count_more (holding cells') (holding cells) (length cells) i hi (ap is_some (keyed_there cells cells' i None z.keys hi)) (ap is_some held) (λ j h. ap is_some (sym (keyed_others cells cells' i None z.keys j h))) in
-      let same = ap (count_below (holding cells')) (keyed_length cells cells' i None z.keys) in
+      let hi = held_cell cell_key cells i k held in
+      let more = count_more (holding cells') (holding cells) (length cells) i hi (ap is_some (keyed_there cell_key cells cells' i None z.keys hi)) (ap is_some held) (λ j h. ap is_some (sym (keyed_others cell_key cells cells' i None z.keys j h))) in
+      let same = ap (count_below (holding cells')) (keyed_length cell_key cells cells' i None z.keys) in
       record {
         sound = record {
           linked = z.linked;

@@ -4,5 +4,4 @@ pub mod Sifting
 pub mod Sifts
 pub mod Seating
 pub mod Heaps
-pub mod Parts
 pub mod Methods

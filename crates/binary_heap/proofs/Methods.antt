@@ -1,44 +1,40 @@
 -- From the first 64 cells to the queue.
-use Rattle.std.proofs.Common.{◌≡◌, ℕ, ◌<◌, min, Bool, List, length, get_or, take, Some, None, Option, ap, ◌∙◌, arith}
+use Rattle.std.proofs.Common.{◌≡◌, ℕ, ◌<◌, min, Bool, List, length, get_or, take, Some, Option, Result, sym, ap, ◌∙◌, arith}
 use Rattle.std.proofs.lemmas.List.{get_or-take}
+use Rattle.event_queue.specs.Queues.{HeldBelow, Only}
+use Rattle.event_queue.specs.Cells.{key_in}
+use Rattle.event_queue.specs.declared.refusal.Refusal.{Refusal}
+use Rattle.std.specs.List.{slice_get}
+use Rattle.std.specs.Result.{result_ok}
+use Rattle.std.proofs.lemmas.Option.{get_or_from_slice_get}
 use Rattle.event_queue.proofs.Fronts.{length_64}
+use Rattle.event_queue.proofs.Keyed.{held_answers, capacity_64, there_64, keyed_others}
 use Rattle.binary_heap.specs.declared.cell.Cell.{Cell}
-use Rattle.binary_heap.specs.Slots.{columns, key_of, ticket_at}
+use Rattle.binary_heap.specs.declared.heap.BinaryHeap.{BinaryHeap}
+use Rattle.binary_heap.specs.Meanings.{heap_meaning}
+use Rattle.binary_heap.specs.Slots.{cell_key, columns, key_of, ticket_at}
 use Rattle.binary_heap.specs.Sound.{Sound, Keyed}
-use Rattle.binary_heap.proofs.Columns.{key_read, ticket_read, key_length}
-use Rattle.binary_heap.proofs.Heaps.{keyed_length, keyed_there, held_cell, first_held}
-use Rattle.event_queue.proofs.Options.{some_none}
+use Rattle.binary_heap.proofs.Columns.{ticket_read, key_length}
+use Rattle.binary_heap.proofs.Heaps.{first_held}
 
-module _ {K : Type 0} (xs : List (Cell K)) where
-  pub in_64 : (n : ℕ) → n < min (length xs) 64 → n < length (take 64 xs)
-  in_64 n h = omega (arith, length_64 xs)
-
-  pub held_64 : (n : ℕ) (k : K) → key_of (columns (take 64 xs)) n ≡ Some k → n < min (length xs) 64
-  held_64 n k e = omega (arith, length_64 xs, held_cell (take 64 xs) n k e)
-
-  pub key_64 : (n : ℕ) (d : Cell K) → n < min (length xs) 64 → key_of (columns (take 64 xs)) n ≡ (get_or xs n d).key
-  key_64 n d h = key_read (take 64 xs) n d (in_64 n h) ∙ ap (λ c. c.key) (get_or-take 64 xs n d (omega arith))
-
-  pub ticket_64 : (n : ℕ) (d : Cell K) → n < min (length xs) 64 → ticket_at (columns (take 64 xs)) n ≡ (get_or xs n d).ticket
-  ticket_64 n d h = ticket_read (take 64 xs) n d (in_64 n h) ∙ ap (λ c. c.ticket) (get_or-take 64 xs n d (omega arith))
-
-  module _ (before : K → K → Bool) (zs : List (Cell K)) (size n : ℕ) (v : Option K) (k : Keyed before (take 64 xs) (take 64 zs) size n v) where
-    pub capacity_64 : min (length zs) 64 ≡ min (length xs) 64
-    capacity_64 = omega (arith, keyed_length (take 64 xs) (take 64 zs) n v k.keys, length_64 xs, length_64 zs)
-
-    pub there_64 : n < min (length xs) 64 → key_of (columns (take 64 zs)) n ≡ v
-    there_64 h = keyed_there (take 64 xs) (take 64 zs) n v k.keys (in_64 n h)
+-- a change of one ticket, told of the queue
+pub only_64 : {K : Type 0} (before : K → K → Bool) (q q' : BinaryHeap K) (n : ℕ) (v : Option K) → n < min (length q.cells.now) 64 → Keyed before (take 64 q.cells.now) (take 64 q'.cells.now) q'.size n v → Only (heap_meaning before) q q' n v
+only_64 before q q' n v h k =
+    let xs = q.cells.now in
+    let zs = q'.cells.now in
+    record { sound = k.sound; capacity = capacity_64 cell_key xs zs n v k.keys; there = there_64 cell_key xs zs n v k.keys h; others = keyed_others cell_key (take 64 xs) (take 64 zs) n v k.keys }
 
 -- the ticket in the first slot of a sound heap holds a key
-module _ {K : Type 0} (before : K → K → Bool) (xs : List (Cell K)) (size : ℕ) (S : Sound before (take 64 xs) size) where
-  pub first_cell : 0 < size → (d : Cell K) → (get_or xs 0 d).ticket < min (length xs) 64
-  first_cell h d =
-      let b : 0 < min (length xs) 64 = omega (arith, S.linked.room, key_length (take 64 xs), length_64 xs) in
-      omega (arith, (first_held before (take 64 xs) size S h).cell, key_length (take 64 xs), length_64 xs, ticket_64 xs 0 d b)
+module _ {K : Type 0} (before : K → K → Bool) (xs : List (Cell K)) (size : ℕ) (S : Sound before (take 64 xs) size) (some : 0 < size) where
+  pub any_cell : 0 < min (length xs) 64
+  any_cell = omega (arith, S.linked.room, key_length (take 64 xs), length_64 xs)
 
-  pub first_some : 0 < size → (d e : Cell K) → (get_or xs (get_or xs 0 d).ticket e).key ≡ None → ⊥
-  first_some h d e n =
-      let b : 0 < min (length xs) 64 = omega (arith, S.linked.room, key_length (take 64 xs), length_64 xs) in
-      let s = first_held before (take 64 xs) size S h in
-      some_none (key_of (columns (take 64 xs)) (ticket_at (columns (take 64 xs)) 0)) s.key s.holds
-      (ap (key_of (columns (take 64 xs))) (ticket_64 xs 0 d b) ∙ key_64 xs (get_or xs 0 d).ticket e (first_cell h d) ∙ n)
+  pub first_ticket : (d : Cell K) → ticket_at (columns (take 64 xs)) 0 ≡ (get_or xs 0 d).ticket
+  first_ticket d = ticket_read (take 64 xs) 0 d (omega (arith, any_cell, length_64 xs)) ∙ ap (λ c. c.ticket) (get_or-take 64 xs 0 d (omega arith))
+
+  -- so the ticket that stands there is asked for, and answered
+  pub first_held_64 : (cell : Cell K) → slice_get xs 0 ≡ Some cell → key_in cell_key (take 64 xs) cell.ticket ≡ Some (first_held before (take 64 xs) size S some).key
+  first_held_64 cell e = ap (key_of (columns (take 64 xs))) (ap (λ c. c.ticket) (sym (get_or_from_slice_get xs 0 cell cell e)) ∙ sym (first_ticket cell)) ∙ (first_held before (take 64 xs) size S some).holds
+
+  pub first_answers : (cell : Cell K) → slice_get xs 0 ≡ Some cell → (r : Result (Option K) Refusal) → HeldBelow (min (length xs) 64) (key_in cell_key (take 64 xs)) cell.ticket r → result_ok r ≡ Some (Some (first_held before (take 64 xs) size S some).key)
+  first_answers cell e r h = held_answers cell_key xs cell.ticket _ r h (first_held_64 cell e)

@@ -1,9 +1,10 @@
 -- The cells of a binary heap, read by columns.
 use Rattle.std.specs.Prelude.{◌≡◌, ℕ, ◌<◌, ◌≤◌, List, map, length, Some, None, Option, slice_index, slice_index_or, slice_set}
-use Rattle.std.proofs.Common.{sym, subst}
-use Rattle.std.proofs.lemmas.List.{length-map}
-use Rattle.std.proofs.Math.ListN.{get_or-eq_default}
 use Rattle.binary_heap.specs.declared.cell.Cell.{Cell}
+
+-- the key in a cell, or none
+abbrev pub cell_key : {K : Type 0} → Cell K → Option K
+cell_key c = c.key
 
 -- By ticket number, the key that it holds and the slot in which it stands; by slot, the ticket there.
 pub record Columns (K : Type 0) : Type 0 where
@@ -11,16 +12,11 @@ pub record Columns (K : Type 0) : Type 0 where
   pub slot : List ℕ
   pub ticket : List ℕ
 
-unfoldable pub columns : {K : Type 0} → List (Cell K) → Columns K
-columns cells = record { key = map (λ c. c.key) cells; slot = map (λ c. c.slot) cells; ticket = map (λ c. c.ticket) cells }
+abbrev pub columns : {K : Type 0} → List (Cell K) → Columns K
+columns cells = record { key = map cell_key cells; slot = map (λ c. c.slot) cells; ticket = map (λ c. c.ticket) cells }
 
 abbrev pub key_of : {K : Type 0} → Columns K → ℕ → Option K
 key_of t i = slice_index_or t.key i None
-
--- past the cells no key is held
-pub key_past : {K : Type 0} (cells : List (Cell K)) (i : ℕ) → length cells ≤ i → key_of (columns cells) i ≡ None
-unfolding columns
-key_past cells i h = get_or-eq_default (map (λ c. c.key) cells) None (subst (λ m. m ≤ i) (sym (length-map cells (λ c. c.key))) h)
 
 abbrev pub slot_of : {K : Type 0} → Columns K → ℕ → ℕ
 slot_of t i = slice_index t.slot i

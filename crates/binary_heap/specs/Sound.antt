@@ -1,5 +1,5 @@
 -- When cells hold a binary heap, and what a change of one ticket does.
-use Rattle.std.specs.Prelude.{◌≡◌, ℕ, Bool, false, List, length, is_some, Some, None, Option, slice_set}
+use Rattle.std.specs.Prelude.{◌≡◌, ℕ, ◌<◌, Bool, List, length, is_some, Some, None, Option, slice_set}
 use Rattle.event_queue.specs.Queues.{count_below}
 use Rattle.binary_heap.specs.declared.cell.Cell.{Cell}
 use Rattle.binary_heap.specs.Slots.{columns, key_of, key_at, Linked}
@@ -18,7 +18,10 @@ module _ {K : Type 0} (before : K → K → Bool) where
     pub sound : Sound cells' size
     pub keys : (columns cells').key ≡ slice_set (columns cells).key ticket holds
 
-  -- a ticket with its key, which has none before it, or none where no ticket holds a key
-  abbrev pub Earliest : List (Cell K) → Option (ℕ × K) → Type 0
-  Earliest cells (Some first) = (key_of (columns cells) first.0 ≡ Some first.1) × ((i : ℕ) (k : K) → key_of (columns cells) i ≡ Some k → before k first.1 ≡ false)
-  Earliest cells None = (i : ℕ) → key_of (columns cells) i ≡ None
+  -- a ticket that holds no key gets one
+  abbrev pub Inserts : List (Cell K) → List (Cell K) → ℕ → ℕ → ℕ → K → Type 0
+  Inserts cells cells' size size' ticket key = Sound cells size → ticket < length cells → key_of (columns cells) ticket ≡ None → Keyed cells cells' size' ticket (Some key)
+
+  -- a ticket that holds a key loses it
+  abbrev pub Removes : List (Cell K) → List (Cell K) → ℕ → ℕ → ℕ → Type 0
+  Removes cells cells' size size' ticket = (key : K) → Sound cells size → key_of (columns cells) ticket ≡ Some key → Keyed cells cells' size' ticket None

@@ -1,8 +1,28 @@
+ghost use Rattle.binary_heap.specs.Slots.{cell_key};
+
+use event_queue::cells::KeyCell;
+use event_queue::key::Key;
+
 // A cell of a binary heap. By ticket number it has the key that the ticket holds and the slot of the heap
-// in which the ticket stands; by slot it has the ticket that stands there.
+// in which the ticket stands; by slot it has the ticket that stands there. The two numberings share the
+// cells that the caller lends: the heap takes no memory of its own.
 #[derive(Clone, Copy)]
 pub struct Cell<K> {
     pub key: Option<K>,
     pub slot: usize,
     pub ticket: usize,
+}
+
+impl<K: Key> KeyCell for Cell<K> {
+    type Key = K;
+
+    ghost holds = { cell_key };
+
+    fn key(&self) -> Option<K> {
+        self.key
+    }
+
+    fn clear(&mut self) {
+        self.key = None;
+    }
 }

@@ -4,13 +4,16 @@ ghost use Rattle.binary_heap.specs.Slots.{columns, key_of};
 ghost use Rattle.binary_heap.specs.Meanings.{heap_meaning};
 
 use crate::cell::Cell;
-use crate::tickets::{clear_front, first, insert_front, remove_front};
+use crate::tickets::{first, insert_front, remove_front};
+use event_queue::cells::{capacity, clear_front, held};
 use event_queue::key::Key;
 use event_queue::queue::Queue;
 use event_queue::refusal::Refusal;
 
 // An event queue as a binary heap with an index by ticket, in cells that the caller lends: the first 64,
-// or all if they are fewer.
+// or all if they are fewer. The memory is lent and fixed, so the size is counted beside it.
+// That it is sound is a premise of contracts and no ghost field: as a field it would make every definition
+// that names the heap take the key kind along, and the interface asks it of any queue all the same.
 #[derive(Drop)]
 pub struct BinaryHeap<'a, K: Key> {
     cells: &'a mut [Cell<K>],
@@ -30,61 +33,52 @@ impl<'a, K: Key> BinaryHeap<'a, K> {
     }
 }
 
+// The cells are named before each call: a slice in a field is not lent again as it stands.
 impl<'a, K: Key> Queue for BinaryHeap<'a, K> {
     type Key = K;
 
     ghost means = { heap_meaning K.Key.before };
 
-    fn capacity(&mut self) -> usize {
-        self.cells.len().min(64)
+    fn capacity(&self) -> usize {
+        capacity(self.cells)
     }
 
-    fn size(&mut self) -> usize {
+    fn size(&self) -> usize {
         self.size
     }
 
-    fn held(&mut self, ticket: usize) -> Result<Option<K>, Refusal> {
-        if ticket >= 64 || ticket >= self.cells.len() {
-            return Err(Refusal::NoSuchTicket);
-        }
-        Ok(self.cells[ticket].key)
+    fn held(&self, ticket: usize) -> Result<Option<K>, Refusal> {
+        held(self.cells, ticket)
     }
 
+    // The calls that change something are written for each heap: they carry a size along and differ in what
+    // they hand it to.
     fn put(&mut self, ticket: usize, key: K) -> Result<(), Refusal> {
-        if ticket >= 64 || ticket >= self.cells.len() {
-            return Err(Refusal::NoSuchTicket);
-        }
-        let held = self.cells[ticket].key;
-        if let Some(_) = held {
+        let cells = &mut *self.cells;
+        if held(cells, ticket)?.is_some() {
             return Err(Refusal::TicketHeld);
         }
-        let size = self.size;
-        self.size = insert_front(self.cells, size, ticket, key);
+        self.size = insert_front(cells, self.size, ticket, key);
         Ok(())
     }
 
     fn drop(&mut self, ticket: usize) -> Result<Option<K>, Refusal> {
-        if ticket >= 64 || ticket >= self.cells.len() {
-            return Err(Refusal::NoSuchTicket);
-        }
-        let held = self.cells[ticket].key;
-        let Some(key) = held else {
+        let cells = &mut *self.cells;
+        // a none inside an `Ok` is answered by hand, since `?` passes on a refusal
+        let Some(key) = held(cells, ticket)? else {
             return Ok(None);
         };
-        let size = self.size;
-        self.size = remove_front(self.cells, size, ticket);
+        self.size = remove_front(cells, self.size, ticket);
         Ok(Some(key))
     }
 
     fn take(&mut self, limit: K) -> Option<(usize, K)> {
-        let size = self.size;
-        let Some(first) = first(self.cells, size) else {
-            return None;
-        };
+        let cells = &mut *self.cells;
+        let first = first(cells, self.size)?;
         if limit.is_before(&first.1) {
             return None;
         }
-        self.size = remove_front(self.cells, size, first.0);
+        self.size = remove_front(cells, self.size, first.0);
         Some(first)
     }
 }

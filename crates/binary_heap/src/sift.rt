@@ -23,6 +23,7 @@ pub fn sift_up<K: Key>(cells: &mut [Cell<K>], slot: usize)
 }
 
 // The child of a slot whose key comes first, of a slot that has one.
+#[tactic(auto, using(crate::proofs::Sifts::left_first, crate::proofs::Sifts::right_first))]
 fn first_child<K: Key>(cells: &[Cell<K>], size: usize, slot: usize) -> usize
     requires few { slot < 64 }
     requires some { 2 * slot + 1 < size }
@@ -46,11 +47,7 @@ fn sooner_child<K: Key>(cells: &[Cell<K>], size: usize, slot: usize) -> Option<u
         return None;
     }
     let child = first_child(cells, size, slot);
-    if is_sooner_at(cells, child, slot) {
-        Some(child)
-    } else {
-        None
-    }
+    is_sooner_at(cells, child, slot).then_some(child)
 }
 
 // Exchanges the ticket in a slot with that of a child slot while the child's key comes sooner.
@@ -67,6 +64,7 @@ pub fn sift_down<K: Key>(cells: &mut [Cell<K>], size: usize, slot: usize)
 }
 
 // Brings the ticket in a slot to where its key belongs, up or down.
+#[tactic(auto, using(crate::proofs::Sifting::loose_top, crate::proofs::Sifting::loose_down))]
 pub fn sift<K: Key>(cells: &mut [Cell<K>], size: usize, slot: usize)
     requires few { size ≤ 64 }
     requires within { slot < size }

@@ -5,38 +5,28 @@ ghost use Rattle.binary_heap.specs.Slots.{columns, slot_of, ticket_at, key_at, w
 use crate::cell::Cell;
 use event_queue::key::{Key, is_sooner};
 
+// Slot and ticket have a function each to read and to write: they differ in the field and are short.
+
 // The ticket in a slot.
 pub fn ticket_at<K: Key>(cells: &[Cell<K>], slot: usize) -> usize
     ensures { result ≡ ticket_at (columns cells.now) slot }
 {
-    if slot < cells.len() {
-        cells[slot].ticket
-    } else {
-        0
-    }
+    cells.get(slot).map_or(0, |cell| cell.ticket)
 }
 
 // The slot of a ticket.
 pub fn slot_of<K: Key>(cells: &[Cell<K>], ticket: usize) -> usize
     ensures { result ≡ slot_of (columns cells.now) ticket }
 {
-    if ticket < cells.len() {
-        cells[ticket].slot
-    } else {
-        0
-    }
+    cells.get(ticket).map_or(0, |cell| cell.slot)
 }
 
 // The key of the ticket in a slot.
+#[tactic(auto, unfolding(crate::specs::Slots::key_at))]
 pub fn key_at<K: Key>(cells: &[Cell<K>], slot: usize) -> Option<K>
     ensures { result ≡ key_at (columns cells.now) slot }
 {
-    let ticket = ticket_at(cells, slot);
-    if ticket < cells.len() {
-        cells[ticket].key
-    } else {
-        None
-    }
+    cells.get(ticket_at(cells, slot))?.key
 }
 
 // Whether the key in the first of two slots comes before that in the second.
@@ -46,7 +36,12 @@ pub fn is_sooner_at<K: Key>(cells: &[Cell<K>], a: usize, b: usize) -> bool
     is_sooner(key_at(cells, a), key_at(cells, b))
 }
 
+// The writes below compare the number themselves, since nothing is promised of what a slice holds after a
+// write through its `get_mut`. Each heap has a `set_key` of its own, which promises that the other columns of
+// its cells stay.
+
 // Gives a ticket a key, or none.
+#[tactic(auto, using(crate::proofs::Columns::key_set, crate::proofs::Columns::key_unset))]
 pub fn set_key<K: Key>(cells: &mut [Cell<K>], ticket: usize, key: Option<K>)
     ensures { columns cells.new ≡ with_key (columns cells.old) ticket key }
 {
@@ -56,6 +51,7 @@ pub fn set_key<K: Key>(cells: &mut [Cell<K>], ticket: usize, key: Option<K>)
 }
 
 // Writes the ticket of a slot.
+#[tactic(auto, using(crate::proofs::Columns::ticket_set, crate::proofs::Columns::ticket_unset))]
 fn set_ticket<K: Key>(cells: &mut [Cell<K>], slot: usize, ticket: usize)
     ensures { columns cells.new ≡ with_ticket (columns cells.old) slot ticket }
 {
@@ -65,6 +61,7 @@ fn set_ticket<K: Key>(cells: &mut [Cell<K>], slot: usize, ticket: usize)
 }
 
 // Writes the slot of a ticket.
+#[tactic(auto, using(crate::proofs::Columns::slot_set, crate::proofs::Columns::slot_unset))]
 fn set_slot<K: Key>(cells: &mut [Cell<K>], ticket: usize, slot: usize)
     ensures { columns cells.new ≡ with_slot (columns cells.old) ticket slot }
 {
@@ -82,6 +79,7 @@ pub fn seat<K: Key>(cells: &mut [Cell<K>], slot: usize, ticket: usize)
 }
 
 // Exchanges the tickets of two slots.
+#[tactic(auto, using(crate::proofs::Columns::exchange_columns))]
 pub fn exchange<K: Key>(cells: &mut [Cell<K>], a: usize, b: usize)
     ensures { columns cells.new ≡ exchanged (columns cells.old) a b }
 {

@@ -1,15 +1,20 @@
-ghost use Rattle.std.specs.Prelude.{◌≡◌, ℕ, ◌+◌, ◌-◌, ◌<◌, ◌≤◌, min, length, take, drop, Some, None};
-ghost use Rattle.binary_heap.specs.Slots.{columns, key_of};
-ghost use Rattle.binary_heap.specs.Sound.{Sound, Keyed, Earliest};
+ghost use Rattle.std.specs.Prelude.{◌≡◌, ◌+◌, ◌-◌, ◌<◌, ◌≤◌, take, drop};
+ghost use Rattle.event_queue.specs.Cells.{Earliest};
+ghost use Rattle.binary_heap.specs.Slots.{cell_key};
+ghost use Rattle.binary_heap.specs.Sound.{Sound, Inserts, Removes};
 
 use crate::cell::Cell;
 use crate::sift::{sift, sift_up};
 use crate::slots::{seat, set_key, slot_of, ticket_at};
+use event_queue::cells::{capacity, held};
 use event_queue::key::Key;
+
+// The functions here and in `sift` take cells and size one by one: a struct of the two would be made anew, on
+// the first 64 of the lent cells, at each call, and would have to hand the size back.
 
 // Gives a key to a ticket that holds none, in a heap of `size` tickets.
 fn insert<K: Key>(cells: &mut [Cell<K>], size: usize, ticket: usize, key: K)
-    ensures { Sound K.Key.before cells.old size → ticket < length cells.old → key_of (columns cells.old) ticket ≡ None → Keyed K.Key.before cells.old cells.new (size + 1) ticket (Some key) }
+    ensures { Inserts K.Key.before cells.old cells.new size (size + 1) ticket key }
 {
     set_key(cells, ticket, Some(key));
     seat(cells, size, ticket);
@@ -20,7 +25,7 @@ fn insert<K: Key>(cells: &mut [Cell<K>], size: usize, ticket: usize, key: K)
 fn remove<K: Key>(cells: &mut [Cell<K>], size: usize, ticket: usize)
     requires few { size ≤ 64 }
     requires some { 0 < size }
-    ensures { (key : _) → Sound K.Key.before cells.old size → key_of (columns cells.old) ticket ≡ Some key → Keyed K.Key.before cells.old cells.new (size - 1) ticket None }
+    ensures { Removes K.Key.before cells.old cells.new size (size - 1) ticket }
 {
     let slot = slot_of(cells, ticket);
     let last = size - 1;
@@ -32,65 +37,40 @@ fn remove<K: Key>(cells: &mut [Cell<K>], size: usize, ticket: usize)
     }
 }
 
-// Takes the key out of every cell.
-fn clear<K: Key>(cells: &mut [Cell<K>])
-    ensures { (i : ℕ) → key_of (columns cells.new) i ≡ None }
-{
-    for cell in cells.iter_mut() {
-        cell.key = None;
-    }
-}
-
-// The same in the first 64 cells.
-pub fn clear_front<K: Key>(cells: &mut [Cell<K>])
-    ensures empty { (i : ℕ) → key_of (columns (take 64 cells.new)) i ≡ None }
-    ensures past { drop 64 cells.new ≡ drop 64 cells.old }
-{
-    let capacity = cells.len().min(64);
-    clear(&mut cells[0..capacity]);
-}
-
 // A ticket whose key has none before it, with the key, in a heap of `size` tickets: that of the first slot.
-pub fn first<K: Key>(cells: &mut [Cell<K>], size: usize) -> Option<(usize, K)>
-    ensures earliest { Sound K.Key.before (take 64 cells.old) size → Earliest K.Key.before (take 64 cells.old) result }
-    ensures same { cells.new ≡ cells.old }
+pub fn first<K: Key>(cells: &[Cell<K>], size: usize) -> Option<(usize, K)>
+    ensures { Sound K.Key.before (take 64 cells.now) size → Earliest cell_key K.Key.before (take 64 cells.now) result }
 {
-    if size == 0 || cells.len() == 0 {
+    if size == 0 {
         return None;
     }
-    let ticket = cells[0].ticket;
-    if ticket >= 64 || ticket >= cells.len() {
-        return None;
-    }
-    let held = cells[ticket].key;
-    let Some(key) = held else {
-        return None;
-    };
+    let ticket = cells.first()?.ticket;
+    let key = held(cells, ticket).ok()??;
     Some((ticket, key))
 }
 
 // The same as `insert`, in the first 64 cells. It answers the new size.
 pub fn insert_front<K: Key>(cells: &mut [Cell<K>], size: usize, ticket: usize, key: K) -> usize
-    ensures keyed { Sound K.Key.before (take 64 cells.old) size → ticket < min (length cells.old) 64 → key_of (columns (take 64 cells.old)) ticket ≡ None → Keyed K.Key.before (take 64 cells.old) (take 64 cells.new) result ticket (Some key) }
+    ensures inserts { Inserts K.Key.before (take 64 cells.old) (take 64 cells.new) size result ticket key }
     ensures past { drop 64 cells.new ≡ drop 64 cells.old }
 {
-    let capacity = cells.len().min(64);
+    let capacity = capacity(cells);
     if size >= capacity {
         return size;
     }
-    insert(&mut cells[0..capacity], size, ticket, key);
+    insert(&mut cells[..capacity], size, ticket, key);
     size + 1
 }
 
 // The same as `remove`, in the first 64 cells. It answers the new size.
 pub fn remove_front<K: Key>(cells: &mut [Cell<K>], size: usize, ticket: usize) -> usize
-    ensures keyed { (key : _) → Sound K.Key.before (take 64 cells.old) size → key_of (columns (take 64 cells.old)) ticket ≡ Some key → Keyed K.Key.before (take 64 cells.old) (take 64 cells.new) result ticket None }
+    ensures removes { Removes K.Key.before (take 64 cells.old) (take 64 cells.new) size result ticket }
     ensures past { drop 64 cells.new ≡ drop 64 cells.old }
 {
-    let capacity = cells.len().min(64);
+    let capacity = capacity(cells);
     if size == 0 || size > capacity {
         return size;
     }
-    remove(&mut cells[0..capacity], size, ticket);
+    remove(&mut cells[..capacity], size, ticket);
     size - 1
 }

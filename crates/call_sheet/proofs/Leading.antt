@@ -1,6 +1,6 @@
 -- Where a log leads once one more call is made: the sheet still holds the lines that wait, and the
 -- call's answer was right.
-use Rattle.std.proofs.Common.{◌≡◌, ℕ, Bool, true, false, eqb, ltb, List, ◌∷◌, is_some, Some, None, Ok, Err, Option, Result, sym, refl, ap, ◌∙◌, subst, inl, inr, ⊎_elim, arith}
+use Rattle.std.proofs.Common.{◌≡◌, ℕ, Bool, true, false, eqb, ltb, List, ◌∷◌, is_some, Some, None, Ok, Err, Option, Result, sym, refl, ap, ◌∙◌, subst, inl, inr, ⊎_elim}
 use Rattle.std.proofs.lemmas.Bool.{eqb-false, ne_eqb, ltb-false, cases_eq}
 use Rattle.event_queue.specs.Queues.{Meaning, Only, HandedOut}
 use Rattle.call_sheet.specs.Sheets.{Does}
@@ -14,10 +14,10 @@ use Rattle.call_sheet.specs.declared.refusal.Refusal.{Refusal}
 
 some_of : {A : Type 0} (o : Option A) → true ≡ is_some o → (a : A) × (o ≡ Some a)
 some_of (Some a) h = (a, refl)
-some_of None h = let z : ◌≡◌ {A = ℕ} 0 1 = cc in absurd (omega arith)
+some_of None h = cc
 
 none_of : {A : Type 0} (o : Option A) → false ≡ is_some o → o ≡ None
-none_of (Some a) h = let z : ◌≡◌ {A = ℕ} 0 1 = cc in absurd (omega arith)
+none_of (Some a) h = cc
 none_of None h = refl
 
 -- an event that awaits no line at a second
@@ -25,13 +25,13 @@ abbrev Idle : Event → Type 0
 Idle e = (line second : ℕ) → e ≡ OnAwait line second (Ok tt) → ⊥
 
 heard_idle : (line : ℕ) (answer : Result Bool Refusal) → Idle (OnHeard line answer)
-heard_idle line answer i s e = let z : ◌≡◌ {A = ℕ} 0 1 = cc in omega arith
+heard_idle line answer i s e = cc
 
 overdue_idle : (given : ℕ) (answer : Option Hail) → Idle (OnOverdue given answer)
-overdue_idle given answer i s e = let z : ◌≡◌ {A = ℕ} 0 1 = cc in omega arith
+overdue_idle given answer i s e = cc
 
 refused_idle : (line second : ℕ) (r : Refusal) → Idle (OnAwait line second (Err r))
-refused_idle line second r i s e = let z : ◌≡◌ {A = ℕ} 0 1 = cc in omega arith
+refused_idle line second r i s e = cc
 
 module _ {Q : Type 0} (m : Meaning Q ℕ) where
   -- a call that leaves the sheet as it was, and concerns no line
@@ -63,7 +63,7 @@ module _ {Q : Type 0} (m : Meaning Q ℕ) where
   led_gone : {q q' : Q} {log : List Event} {n : ℕ} (e : Event) → LedTo m log q → Only m q q' n None → Right (m.capacity q) log e → ((i : ℕ) → concerns i e ≡ eqb i n) → Idle e → LedTo m (e ∷ log) q'
   led_gone e l o right here idle =
       led_only e l o right here
-      (λ s h. let z : ◌≡◌ {A = ℕ} 0 1 = cc in absurd (omega arith))
+      (λ s h. cc)
       (λ i s new. absurd (idle i s new))
 
   -- what a queue hands out was handed out rightly
@@ -92,7 +92,7 @@ module _ {Q : Type 0} (m : Meaning Q ℕ) where
       let done = d l.sound in
       let none = none_of (m.held q line) done.1 in
       led_gone _ l done.2
-      (done.0, λ s w. let h : m.held q line ≡ Some s = l.holds line s w in let z : ◌≡◌ {A = ℕ} 0 1 = cc in omega arith)
+      (done.0, λ s w. let h : m.held q line ≡ Some s = l.holds line s w in cc)
       (λ i. refl) (heard_idle line (Ok false))
   led q q' (OnHeard line (Err r)) d log l =
       led_same _ l d.0 (d.1 l.sound) (λ i. refl) (heard_idle line (Err r))

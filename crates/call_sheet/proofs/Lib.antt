@@ -1,3 +1,2 @@
-mod Clearing
 mod Leading
 pub mod Staying

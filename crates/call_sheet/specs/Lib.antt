@@ -1,3 +1,4 @@
 pub mod Lines
 pub mod Sheets
 pub mod History
+pub mod Texts

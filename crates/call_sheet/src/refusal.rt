@@ -1,5 +1,8 @@
 ghost use Rattle.std.specs.Prelude.{◌≡◌};
 ghost use Rattle.call_sheet.specs.Lines.{refusal_number};
+ghost use Rattle.call_sheet.specs.declared.refusal.Refusal.TheVariants.{NoSuchLine};
+
+use event_queue::refusal::Refusal as QueueRefusal;
 
 // Why a call sheet refused a call.
 #[derive(Clone, Copy, PartialEq, Eq, Debug)]
@@ -8,13 +11,22 @@ pub enum Refusal {
     NoSuchLine,
 }
 
-impl Refusal {
-    // The refusal's number in the table of refusals.
-    pub fn number(&self) -> u8
-        ensures { result ≡ refusal_number self.now }
-    {
-        match self {
+// The refusal's number in the table of refusals.
+impl From<Refusal> for u8 {
+    ghost from_gives = { λ e r. r ≡ refusal_number e };
+
+    fn from(refusal: Refusal) -> u8 {
+        match refusal {
             Refusal::NoSuchLine => 11,
         }
+    }
+}
+
+// What the sheet's queue refuses, the sheet refuses: a ticket is a line.
+impl From<QueueRefusal> for Refusal {
+    ghost from_gives = { λ _ r. r ≡ NoSuchLine };
+
+    fn from(_refusal: QueueRefusal) -> Refusal {
+        Refusal::NoSuchLine
     }
 }

@@ -1,27 +1,18 @@
 ghost use Rattle.std.specs.Prelude.{◌≡◌, List, [], ◌∷◌};
-ghost use Rattle.event_queue.specs.Queues.{Empty};
 ghost use Rattle.call_sheet.specs.Sheets.{call_of, Awaits, Hears, Hails, Does};
 ghost use Rattle.call_sheet.specs.History.{LedTo};
 
 use crate::call::{Call, Event, Hail};
 use crate::refusal::Refusal;
+use event_queue::clear::clear;
 use event_queue::queue::Queue;
 
 // A call sheet: for some lines the second at which each is awaited, kept in an event queue.
+// That the queue is sound is a premise of contracts: as an invariant of the sheet, `new` would ask it.
+// `keeps` and `history` stand at each call, since they relate the queue before and after it.
 #[derive(Drop)]
 pub struct CallSheet<Q> {
     queue: Q,
-}
-
-// Drops every ticket.
-fn clear<Q: Queue<Key = u32>>(queue: &mut Q)
-    ensures empty { Q.Queue.means.sound queue.old → Empty Q.Queue.means queue.new }
-    ensures capacity { Q.Queue.means.sound queue.old → Q.Queue.means.capacity queue.new ≡ Q.Queue.means.capacity queue.old }
-    ensures keeps { Q.Queue.means.keeps queue.old queue.new }
-{
-    for ticket in 0..queue.capacity() {
-        let _ = queue.drop(ticket);
-    }
 }
 
 impl<Q: Queue<Key = u32>> CallSheet<Q> {
@@ -36,9 +27,8 @@ impl<Q: Queue<Key = u32>> CallSheet<Q> {
     }
 
     // How many lines there are: they are the numbers below it. It never refuses.
-    pub fn capacity(&mut self) -> usize
-        ensures value { result ≡ Q.Queue.means.capacity self.old.queue }
-        ensures same { self.new ≡ self.old }
+    pub fn capacity(&self) -> usize
+        ensures { result ≡ Q.Queue.means.capacity self.now.queue }
     {
         self.queue.capacity()
     }
@@ -50,13 +40,9 @@ impl<Q: Queue<Key = u32>> CallSheet<Q> {
         ensures keeps { Q.Queue.means.keeps self.old.queue self.new.queue }
         ensures history { (log : List Event) → LedTo Q.Queue.means log self.old.queue → LedTo Q.Queue.means (Event.OnAwait line second result ∷ log) self.new.queue }
     {
-        match self.queue.drop(line) {
-            Ok(_) => {
-                let _ = self.queue.put(line, second);
-                Ok(())
-            }
-            Err(_) => Err(Refusal::NoSuchLine),
-        }
+        self.queue.drop(line)?;
+        let _ = self.queue.put(line, second);
+        Ok(())
     }
 
     // Awaits the line no more, and answers whether it was awaited. It refuses a line that is not below
@@ -66,10 +52,7 @@ impl<Q: Queue<Key = u32>> CallSheet<Q> {
         ensures keeps { Q.Queue.means.keeps self.old.queue self.new.queue }
         ensures history { (log : List Event) → LedTo Q.Queue.means log self.old.queue → LedTo Q.Queue.means (Event.OnHeard line result ∷ log) self.new.queue }
     {
-        match self.queue.drop(line) {
-            Ok(old) => Ok(old.is_some()),
-            Err(_) => Err(Refusal::NoSuchLine),
-        }
+        Ok(self.queue.drop(line)?.is_some())
     }
 
     // Hands out the line that is awaited earliest, if its second is not after the given one, or answers
@@ -79,13 +62,12 @@ impl<Q: Queue<Key = u32>> CallSheet<Q> {
         ensures keeps { Q.Queue.means.keeps self.old.queue self.new.queue }
         ensures history { (log : List Event) → LedTo Q.Queue.means log self.old.queue → LedTo Q.Queue.means (Event.OnOverdue second result ∷ log) self.new.queue }
     {
-        match self.queue.take(second) {
-            Some((line, second)) => Some(Hail { line, second }),
-            None => None,
-        }
+        let (line, second) = self.queue.take(second)?;
+        Some(Hail { line, second })
     }
 
     // Does the call, and answers it with what the sheet answered. It refuses what the call refuses.
+    // Calls are data that scripts hold and reports show, so it goes by their kind.
     pub fn perform(&mut self, call: Call) -> Event
         ensures call { call_of result ≡ call }
         ensures after { Does Q.Queue.means self.old.queue self.new.queue result }

@@ -12,22 +12,22 @@ module _ {E : Type 0} where
   -- a line whose condition holds answers
   pub topmost_true : (e : E) (b : Bool) (below : List (Line E)) → b ≡ true → topmost (e when b ∷ below) ≡ Some e
   topmost_true e true below h = refl
-  topmost_true e false below h = let z : ◌≡◌ {A = ℕ} 0 1 = cc in absurd (omega arith)
+  topmost_true e false below h = cc
 
   -- a line whose condition fails is passed over
   pub topmost_false : (e : E) (b : Bool) (below : List (Line E)) → b ≡ false → topmost (e when b ∷ below) ≡ topmost below
-  topmost_false e true below h = let z : ◌≡◌ {A = ℕ} 0 1 = cc in absurd (omega arith)
+  topmost_false e true below h = cc
   topmost_false e false below h = refl
 
   -- where no refusal comes, the first line's condition fails
   pub topmost_none : (e : E) (b : Bool) (below : List (Line E)) → topmost (e when b ∷ below) ≡ None → b ≡ false
-  topmost_none e true below h = let z : ◌≡◌ {A = ℕ} 0 1 = cc in absurd (omega arith)
+  topmost_none e true below h = cc
   topmost_none e false below h = refl
 
   -- where one comes from a table of one line, its condition holds, and it is that line's
   pub topmost_some : (e f : E) (b : Bool) → topmost (e when b ∷ []) ≡ Some f → (b ≡ true) × (f ≡ e)
   topmost_some e f true h = (refl, (cc))
-  topmost_some e f false h = let z : ◌≡◌ {A = ℕ} 0 1 = cc in absurd (omega arith)
+  topmost_some e f false h = cc
 
   -- a number that is not below the capacity is refused
   pub refused_past : (e : E) (capacity n : ℕ) (below : List (Line E)) → capacity ≤ n → topmost (e when leb capacity n ∷ below) ≡ Some e
@@ -91,8 +91,7 @@ module _ {Q K : Type 0} (m : Meaning Q K) where
   put_only q q' n key (Err x) p s h e =
       let a : put_refusal m q n ≡ Some x = p.1 s in
       let b : put_refusal m q n ≡ None = put_accepted q n h e in
-      let z : ◌≡◌ {A = ℕ} 0 1 = cc in
-      absurd (omega arith)
+      cc
 
   -- a drop that was accepted, and then a put: the ticket holds the key that was put
   pub replaced_only : (q q' q'' : Q) (n : ℕ) (key : K) (old : Option K) (r : Result Unit Refusal) → Dropped m q q' n (Ok old) → Put m q' q'' n key r → m.sound q → Only m q q'' n (Some key)

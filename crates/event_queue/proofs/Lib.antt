@@ -4,4 +4,5 @@ pub mod Fronts
 pub mod Laws
 pub mod Options
 pub mod Columns
+pub mod Keyed
 mod Clearing

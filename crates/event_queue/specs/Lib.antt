@@ -1,3 +1,4 @@
 pub mod Refusals
 pub mod Orders
 pub mod Queues
+pub mod Cells

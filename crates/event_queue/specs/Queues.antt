@@ -25,6 +25,11 @@ abbrev pub count_below : (ℕ → Bool) → ℕ → ℕ
 count_below test zero = 0
 count_below test (suc n) = cond (test n) 1 0 + count_below test n
 
+-- the key of a ticket number is answered, where the numbers are those below the capacity
+abbrev pub HeldBelow : {K : Type 0} → ℕ → (ℕ → Option K) → ℕ → Result (Option K) Refusal → Type 0
+HeldBelow capacity held n (Ok answer) = (topmost (NoSuchTicket when nat_le capacity n ∷ []) ≡ None) × (answer ≡ held n)
+HeldBelow capacity held n (Err e) = topmost (NoSuchTicket when nat_le capacity n ∷ []) ≡ Some e
+
 module _ {Q K : Type 0} (m : Meaning Q K) where
   -- how many tickets hold a key
   abbrev pub size_of : Q → ℕ
@@ -52,8 +57,7 @@ module _ {Q K : Type 0} (m : Meaning Q K) where
 
   -- held answers a sound queue's key
   abbrev pub Held : Q → ℕ → Result (Option K) Refusal → Type 0
-  Held q n (Ok answer) = (ticket_refusal q n ≡ None) × (answer ≡ m.held q n)
-  Held q n (Err e) = ticket_refusal q n ≡ Some e
+  Held q n answer = HeldBelow (m.capacity q) (m.held q) n answer
 
   -- put: refused, it leaves any queue as it was
   abbrev pub Put : Q → Q → ℕ → K → Result Unit Refusal → Type 0

@@ -1,5 +1,6 @@
 #![tactic(auto)]
 
+pub mod cells;
 pub mod clear;
 pub mod key;
 pub mod queue;

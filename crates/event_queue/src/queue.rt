@@ -7,26 +7,24 @@ use crate::refusal::Refusal;
 // An event queue: keys under ticket numbers, of which it hands out one that has none before it.
 //
 // Every call is safe and ends whatever the queue's memory holds. What is promised under the condition
-// `sound` is promised of a queue that has it, and no call takes it away.
+// `sound` is promised of a queue that has it, and no call takes it away. Each call that changes something says
+// `keeps` of the queue before and after: a relation of two states, which no type can hold.
 pub trait Queue {
     type Key: Key;
 
     ghost means: { Meaning Self Self.Key };
 
     // How many ticket numbers there are: they are the numbers below it.
-    fn capacity(&mut self) -> usize
-        ensures value { result ≡ means.capacity self.old }
-        ensures same { self.new ≡ self.old };
+    fn capacity(&self) -> usize
+        ensures { result ≡ means.capacity self.now };
 
     // How many tickets hold a key.
-    fn size(&mut self) -> usize
-        ensures value { means.sound self.old → result ≡ size_of means self.old }
-        ensures same { self.new ≡ self.old };
+    fn size(&self) -> usize
+        ensures { means.sound self.now → result ≡ size_of means self.now };
 
     // The key that a ticket holds, or none.
-    fn held(&mut self, ticket: usize) -> Result<Option<Self::Key>, Refusal>
-        ensures value { means.sound self.old → Held means self.old ticket result }
-        ensures same { self.new ≡ self.old };
+    fn held(&self, ticket: usize) -> Result<Option<Self::Key>, Refusal>
+        ensures { means.sound self.now → Held means self.now ticket result };
 
     // Gives a ticket a key.
     fn put(&mut self, ticket: usize, key: Self::Key) -> Result<(), Refusal>

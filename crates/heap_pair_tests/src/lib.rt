@@ -27,6 +27,7 @@ mod tests {
     };
 
     // Makes one call on both queues, drawn from the number of the turn, and says whether they agree.
+    // The two queues differ in type, so each kind of call is written out.
     fn agree<A: Queue<Key = u32>, B: Queue<Key = u32>>(a: &mut A, b: &mut B, turn: u32) -> bool {
         let drawn = turn.wrapping_mul(40503) % 65536;
         let ticket = (drawn / 7 % 68) as usize;

@@ -1,29 +1,13 @@
 -- A change of one ticket's key.
-use Rattle.std.proofs.Common.{◌≡◌, ℕ, ◌<◌, Bool, ◌≢◌, List, length, get_or, set, Some, None, Option, sym, ap, ◌∙◌, subst, ⊎_elim, arith}
-use Rattle.std.proofs.lemmas.Bool.{cases_eq, cases_lt}
-use Rattle.std.proofs.lemmas.List.{get_or-set_same, get_or-set_other, length-set}
+use Rattle.std.proofs.Common.{◌≡◌, ℕ, ◌<◌, Bool, ◌≢◌, List, length, get_or, set, None, Option, sym, ap, ◌∙◌, subst, ⊎_elim, arith}
+use Rattle.std.proofs.lemmas.Bool.{cases_eq}
 use Rattle.pairing_heap.specs.declared.node.Node.{Node}
-use Rattle.pairing_heap.specs.Links.{Columns, columns, key_of, key_past}
+use Rattle.pairing_heap.specs.Links.{Columns, columns, key_of}
 use Rattle.pairing_heap.specs.Forests.{Ordered}
 use Rattle.pairing_heap.specs.Melds.{Made}
 use Rattle.pairing_heap.specs.Sound.{bit, Keyed}
 use Rattle.pairing_heap.proofs.Columns.{key_length}
 use Rattle.pairing_heap.proofs.Counting.{bit_here, bit_other}
-use Rattle.event_queue.proofs.Options.{some_none}
-
--- a ticket that holds a key is one of the cells
-pub held_cell : {K : Type 0} (cells : List (Node K)) (i : ℕ) (k : K) → key_of (columns cells) i ≡ Some k → i < length cells
-held_cell cells i k e = ⊎_elim (λ h. h) (λ h. absurd (some_none (key_of (columns cells) i) k e (key_past cells i h))) (cases_lt i (length cells))
-
-module _ {K : Type 0} (cells cells' : List (Node K)) (i : ℕ) (v : Option K) (e : (columns cells').key ≡ set (columns cells).key i v) where
-  pub keyed_length : length cells' ≡ length cells
-  keyed_length = sym (key_length cells') ∙ ap length e ∙ length-set (columns cells).key i v ∙ key_length cells
-
-  pub keyed_there : i < length cells → key_of (columns cells') i ≡ v
-  keyed_there h = ap (λ ks. get_or ks i None) e ∙ get_or-set_same (columns cells).key i v None (omega (arith, key_length cells))
-
-  pub keyed_others : (j : ℕ) → j ≢ i → key_of (columns cells') j ≡ key_of (columns cells) j
-  keyed_others j h = ap (λ ks. get_or ks j None) e ∙ get_or-set_other (columns cells).key i j v None h
 
 -- a tree of the tickets that hold a key, after the key of n became v
 pub made_keyed : {K : Type 0} (before : K → K → Bool) (cells cells' : List (Node K)) (t : Columns K) (root : Option ℕ) (f : ℕ → ℕ) (m n : ℕ) (v : Option K) → n < length cells → t.key ≡ set (columns cells).key n v → Made before t (columns cells') root f m → ((j : ℕ) → j ≡ n → f j ≡ bit v) → ((j : ℕ) → j ≢ n → f j ≡ bit (key_of (columns cells) j)) → Keyed before cells cells' root m n v

@@ -1,8 +1,8 @@
 -- The columns of the cells, through a read and a write.
-use Rattle.std.proofs.Common.{◌≡◌, ℕ, ◌<◌, ◌≤◌, true, false, List, length, get_or, set, Some, None, Option, sym, refl, ap, ◌∙◌, arith}
+use Rattle.std.proofs.Common.{◌≡◌, ℕ, ◌≤◌, true, false, List, length, get_or, set, Some, None, Option, sym, refl, ap, ◌∙◌, arith}
 use Rattle.event_queue.proofs.Columns.{map_kept, map_past}
-use Rattle.std.proofs.lemmas.List.{map-set, length-map, get_or-map, get_or_past}
-use Rattle.pairing_heap.specs.Links.{Columns, columns, key_of, child_of, next_of, back_of, with_key, with_child, with_next, with_back, linked, leads_to, bypassed, taken_from, without_tree}
+use Rattle.std.proofs.lemmas.List.{map-set, length-map, get_or_past}
+use Rattle.pairing_heap.specs.Links.{Columns, columns, child_of, next_of, back_of, with_key, with_child, with_next, with_back, linked, leads_to, bypassed, taken_from, without_tree}
 use Rattle.pairing_heap.specs.declared.node.Node.{Node}
 
 columns_from : {K : Type 0} {k k' : List (Option K)} {c c' n n' b b' : List (Option ℕ)} → k ≡ k' → c ≡ c' → n ≡ n' → b ≡ b' → ◌≡◌ {A = Columns K} (record { key = k; child = c; next = n; back = b }) (record { key = k'; child = c'; next = n'; back = b' })
@@ -16,46 +16,23 @@ pub record Even {K : Type 0} (t : Columns K) : Type 0 where
 
 module _ {K : Type 0} (cells : List (Node K)) where
   pub key_length : length (columns cells).key ≡ length cells
-  unfolding columns
   key_length = length-map cells (λ c. c.key)
 
   pub cells_even : Even (columns cells)
-  unfolding columns
   cells_even = record { child = simp length-map; next = simp length-map; back = simp length-map }
 
   module _ (i : ℕ) (d : Node K) where
     pub key_set : (k : Option K) → columns (set cells i (record { key = k; child = (get_or cells i d).child; next = (get_or cells i d).next; back = (get_or cells i d).back })) ≡ with_key (columns cells) i k
-    unfolding columns
     key_set k = columns_from (map-set (λ c. c.key) cells i _) (map_kept (λ c. c.child) cells i d _ refl) (map_kept (λ c. c.next) cells i d _ refl) (map_kept (λ c. c.back) cells i d _ refl)
 
     pub child_set : (v : Option ℕ) → columns (set cells i (record { key = (get_or cells i d).key; child = v; next = (get_or cells i d).next; back = (get_or cells i d).back })) ≡ with_child (columns cells) i v
-    unfolding columns
     child_set v = columns_from (map_kept (λ c. c.key) cells i d _ refl) (map-set (λ c. c.child) cells i _) (map_kept (λ c. c.next) cells i d _ refl) (map_kept (λ c. c.back) cells i d _ refl)
 
     pub next_set : (v : Option ℕ) → columns (set cells i (record { key = (get_or cells i d).key; child = (get_or cells i d).child; next = v; back = (get_or cells i d).back })) ≡ with_next (columns cells) i v
-    unfolding columns
     next_set v = columns_from (map_kept (λ c. c.key) cells i d _ refl) (map_kept (λ c. c.child) cells i d _ refl) (map-set (λ c. c.next) cells i _) (map_kept (λ c. c.back) cells i d _ refl)
 
     pub back_set : (v : ℕ) → columns (set cells i (record { key = (get_or cells i d).key; child = (get_or cells i d).child; next = (get_or cells i d).next; back = Some v })) ≡ with_back (columns cells) (Some i) v
-    unfolding columns
     back_set v = columns_from (map_kept (λ c. c.key) cells i d _ refl) (map_kept (λ c. c.child) cells i d _ refl) (map_kept (λ c. c.next) cells i d _ refl) (map-set (λ c. c.back) cells i _)
-
-    module _ (h : i < length cells) where
-      pub key_read : key_of (columns cells) i ≡ (get_or cells i d).key
-      unfolding columns
-      key_read = get_or-map (λ c. c.key) cells i d None h
-
-      pub child_read : child_of (columns cells) i ≡ (get_or cells i d).child
-      unfolding columns
-      child_read = get_or-map (λ c. c.child) cells i d None h
-
-      pub next_read : next_of (columns cells) i ≡ (get_or cells i d).next
-      unfolding columns
-      next_read = get_or-map (λ c. c.next) cells i d None h
-
-      pub back_read : back_of (columns cells) i ≡ (get_or cells i d).back
-      unfolding columns
-      back_read = get_or-map (λ c. c.back) cells i d None h
 
   -- past the cells there is nothing, and a write does nothing
   module _ (i : ℕ) (h : length cells ≤ i) where
@@ -65,23 +42,16 @@ module _ {K : Type 0} (cells : List (Node K)) where
     pub next_past : next_of (columns cells) i ≡ None
     next_past = get_or_past (columns cells).next i None (omega (arith, key_length, cells_even.next))
 
-    pub back_past : back_of (columns cells) i ≡ None
-    back_past = get_or_past (columns cells).back i None (omega (arith, key_length, cells_even.back))
-
     pub key_unset : (k : Option K) → columns cells ≡ with_key (columns cells) i k
-    unfolding columns
     key_unset k = columns_from (map_past (λ c. c.key) cells i k h) refl refl refl
 
     pub child_unset : (v : Option ℕ) → columns cells ≡ with_child (columns cells) i v
-    unfolding columns
     child_unset v = columns_from refl (map_past (λ c. c.child) cells i v h) refl refl
 
     pub next_unset : (v : Option ℕ) → columns cells ≡ with_next (columns cells) i v
-    unfolding columns
     next_unset v = columns_from refl refl (map_past (λ c. c.next) cells i v h) refl
 
     pub back_unset : (v : ℕ) → columns cells ≡ with_back (columns cells) (Some i) v
-    unfolding columns
     back_unset v = columns_from refl refl refl (map_past (λ c. c.back) cells i (Some v) h)
 
 -- several writes, as the code makes them

@@ -8,5 +8,4 @@ pub mod Cutting
 pub mod Splitting
 pub mod Removing
 pub mod Roots
-pub mod Parts
 pub mod Methods

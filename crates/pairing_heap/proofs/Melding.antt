@@ -33,14 +33,14 @@ module _ {K : Type 0} (before : K → K → Bool) where
         made_as _ _ _ _ (λ j. omega arith) (omega arith) (meld_first u b a y x eb ea e (sooner_asymmetric before o (key_of t y) (key_of t x) s) G F hg hf (λ j. omega (arith, once j)) og of)
 
   -- the first two trees of a row are melded, then the rest of the row, and then what the two made
-  pub pairs_step : (t t1 t2 t3 : Columns K) (first second rest pair others root : Option ℕ) (x y fuel less : ℕ) → first ≡ Some x → second ≡ next_of t x → second ≡ Some y → rest ≡ next_of t y → Melds before t t1 (Some x) (Some y) pair → MeldsPairs before t1 t2 rest less others → Melds before t2 t3 pair others root → fuel ≤ less + 1 → MeldsPairs before t t3 first fuel root
+  pub pairs_step : (t t1 t2 t3 : Columns K) (first second rest pair others root : Option ℕ) (x y fuel less : ℕ) → first ≡ Some x → second ≡ next_of t x → second ≡ Some y → rest ≡ next_of t y → Melds before t t1 first (Some y) pair → MeldsPairs before t1 t2 rest less others → Melds before t2 t3 pair others root → fuel ≤ less + 1 → MeldsPairs before t t3 first fuel root
   pairs_step t t1 t2 t3 first second rest pair others root x y fuel less ex en ey er meld1 pairs meld2 lf p nil h once o le = absurd (some_none first x ex h)
   pairs_step t t1 t2 t3 first second rest pair others root x y fuel less ex en ey er meld1 pairs meld2 lf p (node a k nil) h once o le =
       absurd (some_none second y ey (en ∙ ap (next_of t) (same_some first x a ex h.0) ∙ h.4))
   pairs_step t t1 t2 t3 first second rest pair others root x y fuel less ex en ey er meld1 pairs meld2 lf p (node a k (node b l R)) h once o le =
       let eb : second ≡ Some b = en ∙ ap (next_of t) (same_some first x a ex h.0) ∙ h.4.0 in
       let er' : next_of t b ≡ rest = sym (er ∙ ap (next_of t) (same_some second y b ey eb)) in
-      let m1 = meld1 (node a k nil) (node b l nil) (sym ex ∙ h.0, h.1, h.3) (sym ey ∙ eb, h.4.1, h.4.3) (λ j. omega (arith, once j)) (o.0, o.1, tt) (o.2.0, o.2.1, tt) in
+      let m1 = meld1 (node a k nil) (node b l nil) (h.0, h.1, h.3) (sym ey ∙ eb, h.4.1, h.4.3) (λ j. omega (arith, once j)) (o.0, o.1, tt) (o.2.0, o.2.1, tt) in
       let hr : Leads t b rest R = subst (λ v. Leads t b v R) er' h.4.4 in
       let hr1 : Leads t1 b rest R = leads_frame t t1 (ap length m1.keys) b rest R (λ j c. m1.frame j (omega (arith, once j))) hr in
       let m2 = pairs b R hr1 (λ j. omega (arith, once j)) (rw m1.keys o.2.2) (omega arith) in

@@ -8,7 +8,9 @@ use Rattle.pairing_heap.specs.Melds.{Made, Melds, MeldsPairs}
 use Rattle.pairing_heap.specs.Sound.{bit, Sound, Keyed}
 use Rattle.pairing_heap.proofs.Columns.{key_length, cells_even}
 use Rattle.pairing_heap.proofs.Counting.{nodes_le, bit_le}
-use Rattle.pairing_heap.proofs.Changes.{made_keyed, held_cell}
+use Rattle.pairing_heap.proofs.Changes.{made_keyed}
+use Rattle.event_queue.proofs.Keyed.{held_cell}
+use Rattle.pairing_heap.specs.Links.{node_key}
 use Rattle.pairing_heap.proofs.Splitting.{Split, split_tree}
 use Rattle.event_queue.proofs.Options.{some_none, same_some}
 use Rattle.pairing_heap.proofs.Trees.{one_eq, one_other, apart, leads_frame, rooted_frame, ordered_frame}
@@ -129,7 +131,7 @@ module _ {K : Type 0} (before : K → K → Bool) (cells c1 c2 cells' : List (No
     inner_keyed : Keyed before cells cells' r (size - 1) n None
     inner_keyed =
         subst (λ m. Keyed before cells cells' r m n None) (sym (whole_size before (columns cells) (columns c1) (columns c2) top n k x split b le pairs' size (ap nodes (sym f) ∙ S.counted)))
-        (made_keyed before cells cells' (columns c2) r _ _ n None (held_cell cells n key held) (keys_below before (columns cells) (columns c1) (columns c2) top n k x split b le pairs')
+        (made_keyed before cells cells' (columns c2) r _ _ n None (held_cell node_key cells n key held) (keys_below before (columns cells) (columns c1) (columns c2) top n k x split b le pairs')
         (whole_made before (columns cells) (columns c1) (columns c2) top n k x split b le pairs' (columns cells') root r er melds)
         (λ j e. whole_here before (columns cells) (columns c1) (columns c2) top n k x split b le pairs' j e)
         (λ j e. whole_other before (columns cells) (columns c1) (columns c2) top n k x split b le pairs' j _ e (once j)))

@@ -1,5 +1,5 @@
 -- Which key comes first in a heap, and when there is none.
-use Rattle.std.proofs.Common.{◌≡◌, ℕ, ◌+◌, ◌<◌, Bool, false, List, length, get_or, Some, None, Option, sym, refl, ap, ◌∙◌, subst, ⊎_elim, arith}
+use Rattle.std.proofs.Common.{◌≡◌, ℕ, ◌+◌, ◌<◌, Bool, false, List, get_or, Some, None, Option, sym, refl, ap, ◌∙◌, subst, ⊎_elim, arith}
 use Rattle.std.proofs.lemmas.Bool.{cases_eq, cases_lt}
 use Rattle.event_queue.specs.Orders.{sooner}
 use Rattle.event_queue.proofs.Orders.{Total, sooner_carries, sooner_itself}
@@ -7,7 +7,6 @@ use Rattle.pairing_heap.specs.declared.node.Node.{Node}
 use Rattle.pairing_heap.specs.Links.{Columns, columns, key_of}
 use Rattle.pairing_heap.specs.Forests.{Forest, nil, node, one, times, NoneSooner, Ordered}
 use Rattle.pairing_heap.specs.Sound.{bit, Sound}
-use Rattle.pairing_heap.proofs.Columns.{key_length}
 use Rattle.pairing_heap.proofs.Removing.{tree_root, some_root}
 use Rattle.event_queue.proofs.Options.{some_none}
 use Rattle.pairing_heap.proofs.Trees.{one_same, one_other}
@@ -30,14 +29,15 @@ module _ {K : Type 0} (before : K → K → Bool) (o : Total before) (keys : Lis
       (cases_eq j a)
 
 module _ {K : Type 0} (before : K → K → Bool) (cells : List (Node K)) (root : Option ℕ) (size : ℕ) (S : Sound before cells root size) where
-  -- the root is a cell that holds a key
-  pub root_cell : (i : ℕ) → root ≡ Some i → i < length cells
-  root_cell i e = omega (arith, key_length cells, (tree_root (columns cells) root S.tree i S.rooted e).2)
-
-  pub root_held : (i : ℕ) → root ≡ Some i → key_of (columns cells) i ≡ None → ⊥
-  root_held i e none =
-      let top = tree_root (columns cells) root S.tree i S.rooted e in
-      omega (arith, one_same i, ap (times i) (sym top.1) ∙ S.once i ∙ ap bit none)
+  -- the root holds a key
+  pub root_key : (i : ℕ) → root ≡ Some i → (k : K) × (key_of (columns cells) i ≡ Some k)
+  root_key i e = go (key_of (columns cells) i) refl
+    where
+      go : (o : Option K) → key_of (columns cells) i ≡ o → (k : K) × (key_of (columns cells) i ≡ Some k)
+      go (Some k) h = (k, h)
+      go None h =
+          let top = tree_root (columns cells) root S.tree i S.rooted e in
+          absurd (omega (arith, one_same i, ap (times i) (sym top.1) ∙ S.once i ∙ ap bit h))
 
   -- and has none before it
   pub root_least : Total before → (i : ℕ) (first : K) → root ≡ Some i → key_of (columns cells) i ≡ Some first → (j : ℕ) (k : K) → key_of (columns cells) j ≡ Some k → before k first ≡ false

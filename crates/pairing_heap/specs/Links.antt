@@ -1,9 +1,11 @@
 -- The cells of a pairing heap, read by columns, and what a change of links makes of them.
-use Rattle.std.specs.Prelude.{◌≡◌, ℕ, ◌≤◌, Bool, false, cond, List, map, length, Some, None, Option, ◌==◌, slice_index_or, slice_set}
-use Rattle.std.proofs.Common.{sym, subst}
-use Rattle.std.proofs.lemmas.List.{length-map}
-use Rattle.std.proofs.Math.ListN.{get_or-eq_default}
+use Rattle.std.specs.Prelude.{ℕ, Bool, cond, List, map, Some, None, Option, ◌==◌, slice_index_or, slice_set}
+use Rattle.std.specs.Option.{option_eq}
 use Rattle.pairing_heap.specs.declared.node.Node.{Node}
+
+-- the key in a cell, or none
+abbrev pub node_key : {K : Type 0} → Node K → Option K
+node_key c = c.key
 
 -- By ticket number, the key that it holds, its first child, its next sibling, and what stands before it.
 pub record Columns (K : Type 0) : Type 0 where
@@ -12,16 +14,11 @@ pub record Columns (K : Type 0) : Type 0 where
   pub next : List (Option ℕ)
   pub back : List (Option ℕ)
 
-unfoldable pub columns : {K : Type 0} → List (Node K) → Columns K
-columns cells = record { key = map (λ c. c.key) cells; child = map (λ c. c.child) cells; next = map (λ c. c.next) cells; back = map (λ c. c.back) cells }
+abbrev pub columns : {K : Type 0} → List (Node K) → Columns K
+columns cells = record { key = map node_key cells; child = map (λ c. c.child) cells; next = map (λ c. c.next) cells; back = map (λ c. c.back) cells }
 
 abbrev pub key_of : {K : Type 0} → Columns K → ℕ → Option K
 key_of t i = slice_index_or t.key i None
-
--- past the cells no key is held
-pub key_past : {K : Type 0} (cells : List (Node K)) (i : ℕ) → length cells ≤ i → key_of (columns cells) i ≡ None
-unfolding columns
-key_past cells i h = get_or-eq_default (map (λ c. c.key) cells) None (subst (λ m. m ≤ i) (sym (length-map cells (λ c. c.key))) h)
 
 abbrev pub child_of : {K : Type 0} → Columns K → ℕ → Option ℕ
 child_of t i = slice_index_or t.child i None
@@ -58,8 +55,7 @@ abbrev pub linked : {K : Type 0} → Columns K → ℕ → ℕ → Columns K
 linked t p c = record { key = t.key; child = slice_set t.child p (Some c); next = slice_set t.next c (child_of t p); back = slice_set (set_at t.back (child_of t p) (Some c)) c (Some p) }
 
 abbrev pub leads_to : Option ℕ → ℕ → Bool
-leads_to (Some i) n = i == n
-leads_to None n = false
+leads_to link n = option_eq ◌==◌ link (Some n)
 
 -- what led from the ticket p to the ticket n leads to the ticket of the link
 abbrev pub bypassed : {K : Type 0} → Columns K → ℕ → ℕ → Option ℕ → Columns K

@@ -1,5 +1,5 @@
 -- When cells hold a pairing heap, and what a change of one ticket does.
-use Rattle.std.specs.Prelude.{◌≡◌, ℕ, Bool, false, cond, List, is_some, Some, None, Option, slice_set}
+use Rattle.std.specs.Prelude.{◌≡◌, ℕ, ◌+◌, ◌-◌, ◌<◌, Bool, cond, List, length, is_some, Some, None, Option, slice_set}
 use Rattle.pairing_heap.specs.declared.node.Node.{Node}
 use Rattle.pairing_heap.specs.Links.{columns, key_of}
 use Rattle.pairing_heap.specs.Forests.{Forest, times, nodes, Rooted, Ordered}
@@ -23,7 +23,10 @@ module _ {K : Type 0} (before : K → K → Bool) where
     pub sound : Sound cells' root size
     pub keys : (columns cells').key ≡ slice_set (columns cells).key ticket holds
 
-  -- a ticket with its key, which has none before it, or none where no ticket holds a key
-  abbrev pub Earliest : List (Node K) → Option (ℕ × K) → Type 0
-  Earliest cells (Some first) = (key_of (columns cells) first.0 ≡ Some first.1) × ((i : ℕ) (k : K) → key_of (columns cells) i ≡ Some k → before k first.1 ≡ false)
-  Earliest cells None = (i : ℕ) → key_of (columns cells) i ≡ None
+  -- a ticket that holds no key gets one
+  abbrev pub Inserts : List (Node K) → List (Node K) → Option ℕ → Option ℕ → ℕ → K → Type 0
+  Inserts cells cells' root root' ticket key = (size : ℕ) → Sound cells root size → ticket < length cells → key_of (columns cells) ticket ≡ None → Keyed cells cells' root' (size + 1) ticket (Some key)
+
+  -- a ticket that holds a key loses it
+  abbrev pub Removes : List (Node K) → List (Node K) → Option ℕ → Option ℕ → ℕ → Type 0
+  Removes cells cells' root root' ticket = (size : ℕ) (key : K) → Sound cells root size → key_of (columns cells) ticket ≡ Some key → Keyed cells cells' root' (size - 1) ticket None

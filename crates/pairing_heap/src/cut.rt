@@ -1,25 +1,16 @@
 ghost use Rattle.std.specs.Prelude.{◌≡◌};
-ghost use Rattle.pairing_heap.specs.Links.{columns, leads_to, bypassed, without_tree};
+ghost use Rattle.pairing_heap.specs.Links.{columns, bypassed, without_tree};
 
 use crate::links::{back_of, child_of, next_of, set_back, set_child, set_next};
 use crate::node::Node;
 use event_queue::key::Key;
 
-// Whether a link leads to a ticket.
-pub fn leads_to(link: Option<usize>, ticket: usize) -> bool
-    ensures { result ≡ leads_to link ticket }
-{
-    match link {
-        Some(there) => there == ticket,
-        None => false,
-    }
-}
-
 // Makes what leads from `back` to a ticket lead to the ticket's next sibling.
+#[tactic(auto, using(crate::proofs::Columns::bypass_child, crate::proofs::Columns::bypass_next))]
 fn bypass<K: Key>(cells: &mut [Node<K>], back: usize, ticket: usize, next: Option<usize>)
     ensures { columns cells.new ≡ bypassed (columns cells.old) back ticket next }
 {
-    if leads_to(child_of(cells, back), ticket) {
+    if child_of(cells, back) == Some(ticket) {
         set_child(cells, back, next);
     } else {
         set_next(cells, back, next);
@@ -27,6 +18,7 @@ fn bypass<K: Key>(cells: &mut [Node<K>], back: usize, ticket: usize, next: Optio
 }
 
 // Takes a ticket with the tree below it out from among its siblings.
+#[tactic(auto, using(crate::proofs::Columns::cut_columns, crate::proofs::Columns::cut_nothing))]
 pub fn cut<K: Key>(cells: &mut [Node<K>], ticket: usize)
     ensures { columns cells.new ≡ without_tree (columns cells.old) ticket }
 {

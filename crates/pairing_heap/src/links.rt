@@ -8,47 +8,38 @@ use event_queue::key::Key;
 pub fn key_of<K: Key>(cells: &[Node<K>], ticket: usize) -> Option<K>
     ensures { result ≡ key_of (columns cells.now) ticket }
 {
-    if ticket < cells.len() {
-        cells[ticket].key
-    } else {
-        None
-    }
+    cells.get(ticket)?.key
 }
+
+// Each link has a function to read it and one to write it: they differ in the field and are one line each.
 
 // The first child of a ticket.
 pub fn child_of<K: Key>(cells: &[Node<K>], ticket: usize) -> Option<usize>
     ensures { result ≡ child_of (columns cells.now) ticket }
 {
-    if ticket < cells.len() {
-        cells[ticket].child
-    } else {
-        None
-    }
+    cells.get(ticket)?.child
 }
 
 // The next sibling of a ticket.
 pub fn next_of<K: Key>(cells: &[Node<K>], ticket: usize) -> Option<usize>
     ensures { result ≡ next_of (columns cells.now) ticket }
 {
-    if ticket < cells.len() {
-        cells[ticket].next
-    } else {
-        None
-    }
+    cells.get(ticket)?.next
 }
 
 // The sibling before a ticket or, at a first child, the parent.
 pub fn back_of<K: Key>(cells: &[Node<K>], ticket: usize) -> Option<usize>
     ensures { result ≡ back_of (columns cells.now) ticket }
 {
-    if ticket < cells.len() {
-        cells[ticket].back
-    } else {
-        None
-    }
+    cells.get(ticket)?.back
 }
 
+// The writes below compare the number themselves, since nothing is promised of what a slice holds after a
+// write through its `get_mut`. Each heap has a `set_key` of its own, which promises that the other columns of
+// its cells stay.
+
 // Gives a ticket a key, or none.
+#[tactic(auto, using(crate::proofs::Columns::key_set, crate::proofs::Columns::key_unset))]
 pub fn set_key<K: Key>(cells: &mut [Node<K>], ticket: usize, key: Option<K>)
     ensures { columns cells.new ≡ with_key (columns cells.old) ticket key }
 {
@@ -58,6 +49,7 @@ pub fn set_key<K: Key>(cells: &mut [Node<K>], ticket: usize, key: Option<K>)
 }
 
 // Writes the first child of a ticket.
+#[tactic(auto, using(crate::proofs::Columns::child_set, crate::proofs::Columns::child_unset))]
 pub fn set_child<K: Key>(cells: &mut [Node<K>], ticket: usize, child: Option<usize>)
     ensures { columns cells.new ≡ with_child (columns cells.old) ticket child }
 {
@@ -67,6 +59,7 @@ pub fn set_child<K: Key>(cells: &mut [Node<K>], ticket: usize, child: Option<usi
 }
 
 // Writes the next sibling of a ticket.
+#[tactic(auto, using(crate::proofs::Columns::next_set, crate::proofs::Columns::next_unset))]
 pub fn set_next<K: Key>(cells: &mut [Node<K>], ticket: usize, next: Option<usize>)
     ensures { columns cells.new ≡ with_next (columns cells.old) ticket next }
 {
@@ -76,6 +69,7 @@ pub fn set_next<K: Key>(cells: &mut [Node<K>], ticket: usize, next: Option<usize
 }
 
 // Writes what stands before the ticket that a link leads to, if it leads to one.
+#[tactic(auto, using(crate::proofs::Columns::back_set, crate::proofs::Columns::back_unset))]
 pub fn set_back<K: Key>(cells: &mut [Node<K>], link: Option<usize>, back: usize)
     ensures { columns cells.new ≡ with_back (columns cells.old) link back }
 {
@@ -88,6 +82,7 @@ pub fn set_back<K: Key>(cells: &mut [Node<K>], link: Option<usize>, back: usize)
 }
 
 // Makes a root the first child of another root.
+#[tactic(auto, using(crate::proofs::Columns::link_columns))]
 pub fn link<K: Key>(cells: &mut [Node<K>], parent: usize, child: usize)
     ensures { columns cells.new ≡ linked (columns cells.old) parent child }
 {

@@ -33,9 +33,7 @@ pub fn meld_pairs<K: Key>(cells: &mut [Node<K>], first: Option<usize>, fuel: usi
     if fuel == 0 {
         return first;
     }
-    let Some(one) = first else {
-        return None;
-    };
+    let one = first?;
     let second = next_of(cells, one);
     let Some(two) = second else {
         return Some(one);

@@ -1,13 +1,18 @@
-ghost use Rattle.std.specs.Prelude.{◌≡◌, ℕ, ◌+◌, ◌-◌, ◌<◌, min, length, take, drop, Some, None};
-ghost use Rattle.pairing_heap.specs.Links.{columns, key_of, child_of, with_key};
+ghost use Rattle.std.specs.Prelude.{◌≡◌, ℕ, length, take, drop, None};
+ghost use Rattle.event_queue.specs.Cells.{Earliest};
+ghost use Rattle.pairing_heap.specs.Links.{columns, node_key, child_of, with_key};
 ghost use Rattle.pairing_heap.specs.Melds.{MeldsPairs};
-ghost use Rattle.pairing_heap.specs.Sound.{Sound, Keyed, Earliest};
+ghost use Rattle.pairing_heap.specs.Sound.{Sound, Inserts, Removes};
 
-use crate::cut::{cut, leads_to};
+use crate::cut::cut;
 use crate::links::{child_of, set_child, set_key};
 use crate::meld::{meld, meld_pairs};
 use crate::node::Node;
+use event_queue::cells::{capacity, held};
 use event_queue::key::Key;
+
+// The functions here take cells and root one by one: a struct of the two would be made anew, on the first 64
+// of the lent cells, at each call, and would have to hand the root back.
 
 // Gives a key to a ticket that holds none, in the heap with this root: the ticket alone is melded with the
 // root. It answers the root.
@@ -17,7 +22,7 @@ fn insert<K: Key>(
     ticket: usize,
     key: K,
 ) -> Option<usize>
-    ensures { (size : ℕ) → Sound K.Key.before cells.old root size → ticket < length cells.old → key_of (columns cells.old) ticket ≡ None → Keyed K.Key.before cells.old cells.new result (size + 1) ticket (Some key) }
+    ensures { Inserts K.Key.before cells.old cells.new root result ticket key }
 {
     set_key(cells, ticket, Some(key));
     set_child(cells, ticket, None);
@@ -37,9 +42,9 @@ fn remove_root<K: Key>(cells: &mut [Node<K>], ticket: usize) -> Option<usize>
 // Takes the key of a ticket away, in the heap with this root: its tree is cut out, and its children are
 // melded and then melded back. It answers the root.
 fn remove<K: Key>(cells: &mut [Node<K>], root: Option<usize>, ticket: usize) -> Option<usize>
-    ensures { (size : ℕ) (key : _) → Sound K.Key.before cells.old root size → key_of (columns cells.old) ticket ≡ Some key → Keyed K.Key.before cells.old cells.new result (size - 1) ticket None }
+    ensures { Removes K.Key.before cells.old cells.new root result ticket }
 {
-    if leads_to(root, ticket) {
+    if root == Some(ticket) {
         return remove_root(cells, ticket);
     }
     cut(cells, ticket);
@@ -47,39 +52,12 @@ fn remove<K: Key>(cells: &mut [Node<K>], root: Option<usize>, ticket: usize) -> 
     meld(cells, root, children)
 }
 
-// Takes the key out of every cell.
-fn clear<K: Key>(cells: &mut [Node<K>])
-    ensures { (i : ℕ) → key_of (columns cells.new) i ≡ None }
-{
-    for cell in cells.iter_mut() {
-        cell.key = None;
-    }
-}
-
-// The same in the first 64 cells.
-pub fn clear_front<K: Key>(cells: &mut [Node<K>])
-    ensures empty { (i : ℕ) → key_of (columns (take 64 cells.new)) i ≡ None }
-    ensures past { drop 64 cells.new ≡ drop 64 cells.old }
-{
-    let capacity = cells.len().min(64);
-    clear(&mut cells[0..capacity]);
-}
-
 // A ticket whose key has none before it, with the key: the root.
-pub fn first<K: Key>(cells: &mut [Node<K>], root: Option<usize>) -> Option<(usize, K)>
-    ensures earliest { (size : ℕ) → Sound K.Key.before (take 64 cells.old) root size → Earliest K.Key.before (take 64 cells.old) result }
-    ensures same { cells.new ≡ cells.old }
+pub fn first<K: Key>(cells: &[Node<K>], root: Option<usize>) -> Option<(usize, K)>
+    ensures { (size : ℕ) → Sound K.Key.before (take 64 cells.now) root size → Earliest node_key K.Key.before (take 64 cells.now) result }
 {
-    let Some(ticket) = root else {
-        return None;
-    };
-    if ticket >= 64 || ticket >= cells.len() {
-        return None;
-    }
-    let held = cells[ticket].key;
-    let Some(key) = held else {
-        return None;
-    };
+    let ticket = root?;
+    let key = held(cells, ticket).ok()??;
     Some((ticket, key))
 }
 
@@ -90,11 +68,11 @@ pub fn insert_front<K: Key>(
     ticket: usize,
     key: K,
 ) -> Option<usize>
-    ensures keyed { (size : ℕ) → Sound K.Key.before (take 64 cells.old) root size → ticket < min (length cells.old) 64 → key_of (columns (take 64 cells.old)) ticket ≡ None → Keyed K.Key.before (take 64 cells.old) (take 64 cells.new) result (size + 1) ticket (Some key) }
+    ensures inserts { Inserts K.Key.before (take 64 cells.old) (take 64 cells.new) root result ticket key }
     ensures past { drop 64 cells.new ≡ drop 64 cells.old }
 {
-    let capacity = cells.len().min(64);
-    insert(&mut cells[0..capacity], root, ticket, key)
+    let capacity = capacity(cells);
+    insert(&mut cells[..capacity], root, ticket, key)
 }
 
 // The same as `remove`, in the first 64 cells.
@@ -103,9 +81,9 @@ pub fn remove_front<K: Key>(
     root: Option<usize>,
     ticket: usize,
 ) -> Option<usize>
-    ensures keyed { (size : ℕ) (key : _) → Sound K.Key.before (take 64 cells.old) root size → key_of (columns (take 64 cells.old)) ticket ≡ Some key → Keyed K.Key.before (take 64 cells.old) (take 64 cells.new) result (size - 1) ticket None }
+    ensures removes { Removes K.Key.before (take 64 cells.old) (take 64 cells.new) root result ticket }
     ensures past { drop 64 cells.new ≡ drop 64 cells.old }
 {
-    let capacity = cells.len().min(64);
-    remove(&mut cells[0..capacity], root, ticket)
+    let capacity = capacity(cells);
+    remove(&mut cells[..capacity], root, ticket)
 }

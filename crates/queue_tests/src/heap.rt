@@ -38,9 +38,9 @@ fn fill<Q: Queue<Key = u32>>(rt: &impl Abort, queue: &mut Q, capacity: usize) {
 fn empty<Q: Queue<Key = u32>>(rt: &impl Abort, queue: &mut Q, capacity: usize) -> Result<(), Fail> {
     let mut last = 0;
     for _ in 0..capacity.min(64) {
-        let Some(first) = queue.take(u32::MAX) else {
-            return Err(Fail::new("a ticket is missing"));
-        };
+        let first = queue
+            .take(u32::MAX)
+            .ok_or_else(|| Fail::new("a ticket is missing"))?;
         assert!(rt; first.1 == key_of(first.0));
         assert!(rt; last <= first.1);
         last = first.1;
@@ -93,12 +93,8 @@ fn limits_and_equal_keys(rt: HostRuntime) -> Result<(), Fail> {
     assert_eq!(rt; queue.take(19), None);
     assert_eq!(rt; queue.drop(6), Ok(Some(30)));
     assert_eq!(rt; queue.drop(6), Ok(None));
-    let Some(first) = queue.take(20) else {
-        return Err(Fail::new("none is left"));
-    };
-    let Some(second) = queue.take(20) else {
-        return Err(Fail::new("one is missing"));
-    };
+    let first = queue.take(20).ok_or_else(|| Fail::new("none is left"))?;
+    let second = queue.take(20).ok_or_else(|| Fail::new("one is missing"))?;
     assert!(rt; first.1 == 20 && second.1 == 20);
     assert!(rt; (first.0 == 2 && second.0 == 5) || (first.0 == 5 && second.0 == 2));
     Ok(())

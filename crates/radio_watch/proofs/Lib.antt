@@ -1,6 +1,5 @@
-mod Spans
+mod Words
 mod Numbers
 mod Names
-mod Items
-mod Reports
+mod Lines
 mod Journals

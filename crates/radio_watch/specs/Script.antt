@@ -1,16 +1,22 @@
 -- What the bytes of a script say.
-use Rattle.std.specs.Prelude.{ℕ, ◌+◌, ◌-◌, ◌*◌, ◌^◌, Bool, true, false, cond, not, ◌&&◌, ◌||◌, List, [], ◌∷◌, Some, None, codes, Option, ◌==◌, nat_le, nat_lt}
+use Rattle.std.specs.Prelude.{ℕ, ◌+◌, ◌-◌, ◌*◌, ◌^◌, Bool, true, false, cond, not, ◌&&◌, ◌||◌, List, [], ◌∷◌, Some, None, Ok, Err, codes, Option, Result, ◌==◌, nat_le, nat_lt}
+use Rattle.std.specs.List.{onto_first}
 use Rattle.call_sheet.specs.declared.call.Call.{Call}
 use Rattle.call_sheet.specs.declared.call.Call.TheVariants.{Await, Heard, Overdue}
-use Rattle.radio_watch.specs.declared.entry.Item.{Item}
-use Rattle.radio_watch.specs.declared.entry.Item.TheVariants.{Command, Unreadable}
-use Rattle.radio_watch.specs.declared.entry.Reading.{Reading}
-use Rattle.radio_watch.specs.declared.entry.Reading.TheVariants.{Nothing, Asks, Unknown}
+use Rattle.radio_watch.specs.declared.entry.Unreadable.{Unreadable}
+use Rattle.radio_watch.specs.declared.script.NotACommand.{NotACommand}
 
--- a byte in front of the first piece
-abbrev pub onto_first : ℕ → List (List ℕ) → List (List ℕ)
-onto_first b [] = (b ∷ []) ∷ []
-onto_first b (piece ∷ pieces) = (b ∷ piece) ∷ pieces
+-- what a script asks for, line by line: a call, or a line that cannot be read
+abbrev pub Item : Type 0
+Item = Result Call Unreadable
+
+-- the call that some words ask for
+abbrev pub Asked : Type 0
+Asked = Result Call NotACommand
+
+-- what one line says: a call, nothing where it is blank or a comment, or that it cannot be read
+abbrev pub Reading : Type 0
+Reading = Result (Option Call) NotACommand
 
 -- the lines of a text: each ends before a line feed, and the last one where the text ends
 abbrev pub lines : List ℕ → List (List ℕ)
@@ -53,30 +59,34 @@ same_bytes (x ∷ xs) [] = false
 same_bytes (x ∷ xs) (y ∷ ys) = x == y && same_bytes xs ys
 
 -- a call from the numbers that follow its name
-abbrev pub one_number : (ℕ → Call) → Option ℕ → Reading
-one_number call (Some n) = Asks (call n)
-one_number call None = Unknown
+abbrev pub one_number : (ℕ → Call) → Option ℕ → Asked
+one_number call (Some n) = Ok (call n)
+one_number call None = Err record {}
 
-abbrev pub two_numbers : (ℕ → ℕ → Call) → Option ℕ → Option ℕ → Reading
-two_numbers call (Some m) (Some n) = Asks (call m n)
-two_numbers call (Some m) None = Unknown
-two_numbers call None n = Unknown
+abbrev pub two_numbers : (ℕ → ℕ → Call) → Option ℕ → Option ℕ → Asked
+two_numbers call (Some m) (Some n) = Ok (call m n)
+two_numbers call (Some m) None = Err record {}
+two_numbers call None n = Err record {}
 
 -- `heard LINE` and `overdue SECOND`
-abbrev pub of_two : List ℕ → List ℕ → Reading
-of_two name a = cond (same_bytes name (codes "heard")) (one_number Heard (number a)) (cond (same_bytes name (codes "overdue")) (one_number Overdue (number a)) Unknown)
+abbrev pub of_two : List ℕ → List ℕ → Asked
+of_two name a = cond (same_bytes name (codes "heard")) (one_number Heard (number a)) (cond (same_bytes name (codes "overdue")) (one_number Overdue (number a)) (Err record {}))
 
 -- `await LINE SECOND`
-abbrev pub of_three : List ℕ → List ℕ → List ℕ → Reading
-of_three name a b = cond (same_bytes name (codes "await")) (two_numbers Await (number a) (number b)) Unknown
+abbrev pub of_three : List ℕ → List ℕ → List ℕ → Asked
+of_three name a b = cond (same_bytes name (codes "await")) (two_numbers Await (number a) (number b)) (Err record {})
+
+abbrev pub asking : Asked → Reading
+asking (Ok call) = Ok (Some call)
+asking (Err unknown) = Err unknown
 
 -- what words that are no comment say
 abbrev pub command : List (List ℕ) → Reading
-command [] = Nothing
-command (name ∷ []) = Unknown
-command (name ∷ a ∷ []) = of_two name a
-command (name ∷ a ∷ b ∷ []) = of_three name a b
-command (name ∷ a ∷ b ∷ c ∷ rest) = Unknown
+command [] = Ok None
+command (name ∷ []) = Err record {}
+command (name ∷ a ∷ []) = asking (of_two name a)
+command (name ∷ a ∷ b ∷ []) = asking (of_three name a b)
+command (name ∷ a ∷ b ∷ c ∷ rest) = Err record {}
 
 -- a comment begins with #
 abbrev pub hash : List ℕ → Bool
@@ -89,13 +99,13 @@ comment (word ∷ more) = hash word
 
 -- what a line says
 abbrev pub reading : List ℕ → Reading
-reading line = cond (comment (words line)) Nothing (command (words line))
+reading line = cond (comment (words line)) (Ok None) (command (words line))
 
 -- what is asked for by the line of this number, and by those after it
 abbrev pub item : ℕ → Reading → List Item → List Item
-item n Nothing after = after
-item n (Asks call) after = Command call ∷ after
-item n Unknown after = Unreadable n ∷ after
+item n (Ok None) after = after
+item n (Ok (Some call)) after = Ok call ∷ after
+item n (Err unknown) after = Err record { number = n } ∷ after
 
 abbrev pub items_from : ℕ → List (List ℕ) → List Item
 items_from n [] = []

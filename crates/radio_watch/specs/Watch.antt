@@ -1,8 +1,7 @@
 -- A whole watch: from a script of what happened on the channel to the report on it.
 use Rattle.std.specs.Prelude.{◌≡◌, ℕ, List}
-use Rattle.radio_watch.specs.declared.entry.Entry.{Entry}
 use Rattle.radio_watch.specs.Script.{items}
-use Rattle.radio_watch.specs.Journal.{Kept}
+use Rattle.radio_watch.specs.Journal.{Entry, Kept}
 use Rattle.radio_watch.specs.Report.{report_text}
 
 -- The report is the text of a journal that was rightly kept of what the script asks for, on a sheet of

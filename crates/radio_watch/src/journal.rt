@@ -8,18 +8,13 @@ use call_sheet::sheet::CallSheet;
 use event_queue::queue::Queue;
 use std::alloc::{AllocError, Global};
 
-// Does what an item asks for, and answers what came of it.
+// Does what an item asks for, and answers what came of it. That the queue is sound is a premise, as the sheet's.
 fn answer<Q: Queue<Key = u32>>(sheet: &mut CallSheet<Q>, item: Item) -> Entry
     ensures item { item_of result ≡ item }
     ensures history { (log : List Event) → LedTo Q.Queue.means log sheet.old.queue → LedTo Q.Queue.means (log_from log (result ∷ [])) sheet.new.queue }
     ensures capacity { Q.Queue.means.sound sheet.old.queue → Q.Queue.means.capacity sheet.new.queue ≡ Q.Queue.means.capacity sheet.old.queue }
 {
-    match item {
-        Item::Command { call } => Entry::Done {
-            event: sheet.perform(call),
-        },
-        Item::Unreadable { number } => Entry::Unreadable { number },
-    }
+    Ok(sheet.perform(item?))
 }
 
 // Does the items of a script in turn, on a sheet over the queue that is empty at first, and answers what

@@ -28,15 +28,15 @@ impl<K: Key> Queue for SingleTicket<K> {
 
     ghost means = { single_meaning };
 
-    fn capacity(&mut self) -> usize {
+    fn capacity(&self) -> usize {
         1
     }
 
-    fn size(&mut self) -> usize {
-        if self.key.is_some() { 1 } else { 0 }
+    fn size(&self) -> usize {
+        usize::from(self.key.is_some())
     }
 
-    fn held(&mut self, ticket: usize) -> Result<Option<K>, Refusal> {
+    fn held(&self, ticket: usize) -> Result<Option<K>, Refusal> {
         if ticket > 0 {
             return Err(Refusal::NoSuchTicket);
         }
@@ -44,10 +44,7 @@ impl<K: Key> Queue for SingleTicket<K> {
     }
 
     fn put(&mut self, ticket: usize, key: K) -> Result<(), Refusal> {
-        if ticket > 0 {
-            return Err(Refusal::NoSuchTicket);
-        }
-        if self.key.is_some() {
+        if self.held(ticket)?.is_some() {
             return Err(Refusal::TicketHeld);
         }
         self.key = Some(key);
@@ -55,19 +52,12 @@ impl<K: Key> Queue for SingleTicket<K> {
     }
 
     fn drop(&mut self, ticket: usize) -> Result<Option<K>, Refusal> {
-        if ticket > 0 {
-            return Err(Refusal::NoSuchTicket);
-        }
-        let key = self.key;
-        self.key = None;
-        Ok(key)
+        self.held(ticket)?;
+        Ok(self.key.take())
     }
 
     fn take(&mut self, limit: K) -> Option<(usize, K)> {
-        let held = self.key;
-        let Some(key) = held else {
-            return None;
-        };
+        let key = self.key?;
         if limit.is_before(&key) {
             return None;
         }

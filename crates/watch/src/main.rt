@@ -8,6 +8,7 @@ use pairing_heap::node::Node;
 use radio_watch::watch::stand_watch;
 use std::env;
 use std::io::Read;
+use std::str::FromStr;
 
 // The queue that the sheet stands over.
 #[derive(Drop)]
@@ -16,21 +17,27 @@ enum Choice {
     Pairing,
 }
 
-// The queue that the first argument names, or the binary heap where there is no argument.
-fn chosen_queue(rt: &HostRuntime) -> anyhow::Result<Choice> {
-    let mut words = env::args(rt)?;
-    let _ = words.next();
-    let Some(word) = words.next() else {
-        return Ok(Choice::Binary);
-    };
-    match word.as_str() {
-        "binary" => Ok(Choice::Binary),
-        "pairing" => Ok(Choice::Pairing),
-        _ => Err(anyhow!("the queue is `binary` or `pairing`")),
+impl FromStr for Choice {
+    type Err = anyhow::Error;
+
+    fn from_str(word: &str) -> anyhow::Result<Choice> {
+        match word {
+            "binary" => Ok(Choice::Binary),
+            "pairing" => Ok(Choice::Pairing),
+            _ => Err(anyhow!("the queue is `binary` or `pairing`")),
+        }
     }
 }
 
-// Reads a script on standard input, and writes the report on it.
+// The queue that the first argument names, or the binary heap where there is no argument.
+fn chosen_queue(rt: &HostRuntime) -> anyhow::Result<Choice> {
+    match env::args(rt)?.nth(1) {
+        Some(word) => word.parse(),
+        None => Ok(Choice::Binary),
+    }
+}
+
+// Reads a script on standard input, and writes the report on it. Each choice lends cells of a type of its own.
 fn run(rt: &HostRuntime) -> anyhow::Result<()> {
     let heap = rt.alloc();
     let chosen = chosen_queue(rt)?;

@@ -1,6 +1,6 @@
-use Rattle.std.proofs.Common.{subst, arith}
+use Rattle.std.proofs.Common.{arith}
 use Rattle.event_queue.proofs.Laws.{dropped_only}
-use Rattle.event_queue.proofs.Clearing.{Cleared, cleared_none, cleared_more, cleared_all}
+use Rattle.event_queue.proofs.Clearing.{cleared_none, cleared_more, cleared_all}
 use Rattle.event_queue.proofs.clear.clear.Goals as goal
 
 pub loop-ticket-init : goal.loop-ticket-init
@@ -18,12 +18,9 @@ loop-ticket-preserved g c =
 pub returns : goal.returns
 returns g c =
     let m = g.Q.Queue.means in
-    let q' = c.loop-ticket.queue in
-    let k = c.loop-ticket.ticket in
-    let asked = c.capacity-ticket-end.ensures in
-    let h = subst (λ q. (m.sound q → Cleared m q q' k) × m.keeps q q') asked.same c.loop-ticket.invariant in
+    let h = c.loop-ticket.invariant in
     record {
-      empty = λ s. cleared_all m (h.0 s) (omega (arith, asked.value));
+      empty = λ s. cleared_all m (h.0 s) (omega (arith, c.capacity-ticket-end.ensures));
       capacity = λ s. (h.0 s).capacity;
       keeps = h.1;
     }

@@ -1,38 +1,29 @@
-use Rattle.std.proofs.Common.{◌<◌, min, length, take, refl, ◌∙◌, ⊎_elim, arith}
-use Rattle.event_queue.proofs.Fronts.{length_64}
-use Rattle.pairing_heap.proofs.Roots.{root_cell, root_held, root_least, none_held}
-use Rattle.pairing_heap.proofs.Methods.{key_64}
+use Rattle.std.proofs.Common.{◌≡◌, Some, take, ◌∙◌}
+use Rattle.event_queue.proofs.Keyed.{held_answers}
+use Rattle.pairing_heap.specs.Links.{node_key}
+use Rattle.pairing_heap.proofs.Roots.{root_key, root_least}
 use Rattle.pairing_heap.proofs.tickets.first.Goals as goal
 
-pub returns-in_default : goal.returns-in_default
-returns-in_default g c =
-    record { earliest = λ size s. none_held g.K.Key.before (take 64 c.args.cells.now) c.args.root size s c.in_default.is; same = refl }
-
-pub returns-then-ticket-ge64 : goal.returns-then-ticket-ge64
-returns-then-ticket-ge64 g c =
+pub returns-in_err-ok : goal.returns-in_err-ok
+returns-in_err-ok g c size s =
     let xs = c.args.cells.now in
-    record {
-      earliest = λ size s.
-          let b = root_cell g.K.Key.before (take 64 xs) c.args.root size s c.in-Some.ticket c.in-Some.is in
-          absurd (⊎_elim (λ h. omega (arith, h, b, length_64 xs)) (λ h. omega (arith, h.1, b, length_64 xs)) c.then-ticket-ge64.either);
-      same = refl;
-    }
+    let top = root_key g.K.Key.before (take 64 xs) c.args.root size s c.in_ok-ticket.ticket c.in_ok-ticket.was in
+    let a = held_answers node_key xs c.in_ok-ticket.ticket top.0 c.held.result c.held.ensures top.1 in
+    cc (c.in_err-ok.ensures.value)
 
-pub returns-in_default-held : goal.returns-in_default-held
-returns-in_default-held g c =
+pub returns-in_err-key : goal.returns-in_err-key
+returns-in_err-key g c size s =
     let xs = c.args.cells.now in
-    let b : c.in-Some.ticket < min (length xs) 64 = omega arith in
-    record {
-      earliest = λ size s. absurd (root_held g.K.Key.before (take 64 xs) c.args.root size s c.in-Some.ticket c.in-Some.is (key_64 xs c.in-Some.ticket c.index-cells-ticket.result b ∙ c.in_default-held.is));
-      same = refl;
-    }
+    let top = root_key g.K.Key.before (take 64 xs) c.args.root size s c.in_ok-ticket.ticket c.in_ok-ticket.was in
+    let a = held_answers node_key xs c.in_ok-ticket.ticket top.0 c.held.result c.held.ensures top.1 in
+    cc (c.in_ok-ok.ensures.value, c.in_err-key.was)
 
 pub returns : goal.returns
-returns g c =
+returns g c size s =
     let xs = c.args.cells.now in
-    let b : c.in-Some.ticket < min (length xs) 64 = omega arith in
-    let held = key_64 xs c.in-Some.ticket c.index-cells-ticket.result b ∙ c.in-Some-held.is in
-    record {
-      earliest = λ size s. (held, root_least g.K.Key.before (take 64 xs) c.args.root size s (record { asymmetric = g.met.K.Key.asymmetric; carries = g.met.K.Key.carries }) c.in-Some.ticket c.in-Some-held.key c.in-Some.is held);
-      same = refl;
-    }
+    let top = root_key g.K.Key.before (take 64 xs) c.args.root size s c.in_ok-ticket.ticket c.in_ok-ticket.was in
+    let a = held_answers node_key xs c.in_ok-ticket.ticket top.0 c.held.result c.held.ensures top.1 in
+    let same : Some top.0 ≡ Some c.in_ok-key.key = cc (c.in_ok-ok.ensures.value, c.in_ok-key.was) in (
+      top.1 ∙ same,
+      root_least g.K.Key.before (take 64 xs) c.args.root size s (record { asymmetric = g.met.K.Key.asymmetric; carries = g.met.K.Key.carries }) c.in_ok-ticket.ticket c.in_ok-key.key c.in_ok-ticket.was (top.1 ∙ same),
+    )

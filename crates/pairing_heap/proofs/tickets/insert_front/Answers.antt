@@ -1,16 +1,11 @@
-use Rattle.std.proofs.Common.{◌≡◌, ◌+◌, ◌-◌, min, length, take, drop, ◌∙◌, arith, length-drop, length-take}
-use Rattle.event_queue.proofs.Fronts.{front_drop, front_take, front_part, length_64}
-use Rattle.pairing_heap.proofs.Parts.{carry}
+use Rattle.event_queue.proofs.Fronts.{front_holds, front_past}
+use Rattle.pairing_heap.specs.Sound.{Inserts}
 use Rattle.pairing_heap.proofs.tickets.insert_front.Goals as goal
 
-pub returns : goal.returns
-returns g c =
-    let xs = c.args.cells.now in
-    let ys = c.insert.new.cells in
-    let k = c.min-capacity.result - 0 in
-    let ek : k ≡ min (length xs) 64 = omega arith in
-    let ey : length ys ≡ k = c.insert.auto.cells ∙ simp (length-take, length-drop) (omega arith) in
-    record {
-      keyed = λ size. carry g.K.Key.before (take k (drop 0 xs)) (take 64 xs) ys _ c.args.root c.insert.result size (size + 1) c.args.ticket c.args.key (front_part xs ys k ek ey) (front_take xs ys k ek ey) (length_64 xs) (c.insert.ensures size);
-      past = front_drop xs ys k ek ey;
-    }
+pub returns-clause-inserts : goal.returns-clause-inserts
+returns-clause-inserts g c =
+    front_holds c.args.cells.now c.insert.new.cells _ c.capacity-capacity.ensures c.insert.auto.cells
+    (λ xs ys. Inserts g.K.Key.before xs ys c.args.root c.insert.result c.args.ticket c.args.key) c.insert.ensures
+
+pub returns-clause-past : goal.returns-clause-past
+returns-clause-past g c = front_past c.args.cells.now c.insert.new.cells _ c.capacity-capacity.ensures c.insert.auto.cells

@@ -1,6 +1,6 @@
 use Rattle.std.proofs.Common.{[], ◌∷◌, ◌++◌, map, take, vec_items, sym, ap, ◌∙◌, subst, arith}
-use Rattle.std.proofs.lemmas.List.{map_push, take_more, take_all}
-use Rattle.call_sheet.specs.History.{LedTo, AllRight}
+use Rattle.std.proofs.lemmas.List.{map_push, take_more}
+use Rattle.call_sheet.specs.History.{LedTo}
 use Rattle.radio_watch.specs.Journal.{item_of, log_from}
 use Rattle.radio_watch.proofs.Journals.{log_push}
 use Rattle.radio_watch.proofs.journal.keep.Goals as goal
@@ -21,12 +21,3 @@ loop-item-preserved g c =
             c.answer-entry.ensures.capacity before.0.sound ∙ before.1,
           ),
     )
-
-pub returns : goal.returns
-returns g c s =
-    let m = g.Q.Queue.means in
-    let led = c.loop-item.invariant.3 (c.new-sheet.ensures.empty s) in
-    record {
-      in_turn = c.loop-item.invariant.2 ∙ take_all c.loop-item.item-index c.args.items.now (omega arith);
-      right = subst (λ n. AllRight n (log_from [] (vec_items c.loop-item.journal))) (led.1 ∙ c.new-sheet.ensures.capacity s) led.0.right;
-    }

@@ -1,19 +1,13 @@
-use Rattle.std.proofs.Common.{eqb, ap, ◌∙◌}
-use Rattle.std.specs.Cmp.Lexicographic.{pointwise}
-use Rattle.radio_watch.proofs.Names.{asks_heard, asks_overdue, no_two}
+use Rattle.std.proofs.Common.{◌≡◌, codes, rules, arith}
+use Rattle.std.proofs.lemmas.Slice.Eq.{text_from_reads}
 use Rattle.radio_watch.proofs.script.two_words.Goals as goal
 
-pub returns-then-eq : goal.returns-then-eq
-returns-then-eq c =
-    let name = c.args.name.now in
-    asks_heard name c.args.argument.now c.in-Some.n c.in-Some.ensures c.eq.result (c.eq.ensures ∙ ap (pointwise eqb name) c.as_slice.ensures) c.if-eq.true
+pub returns-in-heard : goal.returns-in-heard
+returns-in-heard c =
+    let e : c.args.name.now ≡ codes "heard" = text_from_reads c.args.name.now (codes "heard") (omega arith) (search rules) in
+    rw e (search rules)
 
-pub returns-then-eq-2 : goal.returns-then-eq-2
-returns-then-eq-2 c =
-    let name = c.args.name.now in
-    asks_overdue name c.args.argument.now c.in-Some.n c.in-Some.ensures c.eq.result c.eq-else-eq.result (c.eq.ensures ∙ ap (pointwise eqb name) c.as_slice.ensures) c.if-eq.false (c.eq-else-eq.ensures ∙ ap (pointwise eqb name) c.as_slice-else-eq.ensures) c.if-eq-2.true
-
-pub returns-else-eq-2 : goal.returns-else-eq-2
-returns-else-eq-2 c =
-    let name = c.args.name.now in
-    no_two name c.args.argument.now c.in-Some.n c.in-Some.ensures c.eq.result c.eq-else-eq.result (c.eq.ensures ∙ ap (pointwise eqb name) c.as_slice.ensures) c.if-eq.false (c.eq-else-eq.ensures ∙ ap (pointwise eqb name) c.as_slice-else-eq.ensures) c.if-eq-2.false
+pub returns-in-overdue : goal.returns-in-overdue
+returns-in-overdue c =
+    let e : c.args.name.now ≡ codes "overdue" = text_from_reads c.args.name.now (codes "overdue") (omega arith) (search rules) in
+    rw e (search rules)

@@ -1,14 +1,8 @@
-use Rattle.std.proofs.Common.{take, refl, arith}
+use Rattle.std.proofs.Common.{take}
 use Rattle.pairing_heap.proofs.Roots.{empty_sound}
 use Rattle.pairing_heap.proofs.heap.PairingHeap.new.Goals as goal
 
-pub returns : goal.returns
-returns g c =
-    let ys = c.clear_front.new.cells in
+pub returns-clause-empty : goal.returns-clause-empty
+returns-clause-empty g c =
     let none = c.clear_front.ensures.empty in
-    record {
-      empty = record { sound = empty_sound g.K.Key.before (take 64 ys) none; none = none };
-      capacity = omega (arith, c.clear_front.auto.cells);
-      lender = refl;
-      past = c.clear_front.ensures.past;
-    }
+    record { sound = empty_sound g.K.Key.before (take 64 c.clear_front.new.cells) none; none = none }

@@ -1,42 +1,17 @@
-use Rattle.std.proofs.Common.{◌-◌, ◌<◌, min, [], length, take, None, sym, refl, ◌∙◌, subst, arith}
+use Rattle.std.proofs.Common.{◌-◌, [], None, sym, ◌∙◌}
 use Rattle.event_queue.specs.declared.refusal.Refusal.TheVariants.{NoSuchTicket}
-use Rattle.event_queue.proofs.Laws.{accepted_below}
-use Rattle.pairing_heap.specs.Sound.{Sound}
-use Rattle.pairing_heap.proofs.Changes.{keyed_others}
-use Rattle.pairing_heap.proofs.Methods.{key_64, capacity_64, there_64}
+use Rattle.event_queue.proofs.Laws.{below_accepted}
+use Rattle.pairing_heap.proofs.Methods.{only_64}
 use Rattle.pairing_heap.proofs.heap.PairingHeapQueue.drop.Goals as goal
 
-pub returns-in_default : goal.returns-in_default
-returns-in_default g c =
-    let xs = c.args.self.now.cells.now in
+pub returns-clause-after : goal.returns-clause-after
+returns-clause-after g c s =
+    let q = c.args.self.now in
     let n = c.args.ticket in
-    let b : n < min (length xs) 64 = omega arith in
-    record {
-      after = (refl, λ s. (accepted_below NoSuchTicket (min (length xs) 64) n [] b, key_64 xs n c.index-self-ticket.result b ∙ c.in_default.is));
-      keeps = (refl, refl);
-    }
-
-pub returns : goal.returns
-returns g c =
-    let xs = c.args.self.now.cells.now in
-    let zs = c.remove_front-self.new.cells in
-    let n = c.args.ticket in
-    let o = g.K.Key.before in
-    let size = c.args.self.now.size in
-    let b : n < min (length xs) 64 = omega arith in
-    let held = key_64 xs n c.index-self-ticket.result b ∙ c.in-Some.is in
-    let r = c.remove_front-self.result in
-    record {
-      after = λ s.
-          let k = c.remove_front-self.ensures.keyed size c.in-Some.key s held in (
-            accepted_below NoSuchTicket (min (length xs) 64) n [] b,
-            held,
-            record {
-              sound = subst (λ m. Sound o (take 64 zs) r m) (sym c.saturating_sub-self.ensures) k.sound;
-              capacity = capacity_64 xs o zs r (size - 1) n None k;
-              there = there_64 xs o zs r (size - 1) n None k b;
-              others = keyed_others (take 64 xs) (take 64 zs) n None k.keys;
-            },
-          );
-      keeps = (refl, c.remove_front-self.ensures.past);
-    }
+    let asked = c.in_ok-key.ensures in
+    let held = sym asked.1 ∙ c.in-Some.is in (
+      asked.0,
+      held,
+      only_64 g.K.Key.before q _ (q.size - 1) n None (below_accepted NoSuchTicket _ n [] asked.0) (c.remove_front-self.ensures.removes q.size c.in-Some.key s held)
+          (sym c.saturating_sub-self.ensures),
+    )

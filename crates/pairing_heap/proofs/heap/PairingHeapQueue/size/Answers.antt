@@ -1,10 +1,10 @@
-use Rattle.std.proofs.Common.{take, refl, ap, ◌∙◌}
+use Rattle.std.proofs.Common.{take, ap, ◌∙◌}
 use Rattle.event_queue.specs.Queues.{count_below}
 use Rattle.event_queue.proofs.Fronts.{length_64}
 use Rattle.pairing_heap.proofs.Counting.{sound_count}
 use Rattle.pairing_heap.proofs.heap.PairingHeapQueue.size.Goals as goal
 
 pub returns : goal.returns
-returns g c =
+returns g c s =
     let q = c.args.self.now in
-    record { value = λ s. sound_count g.K.Key.before (take 64 q.cells.now) q.root q.size s ∙ ap (count_below _) (length_64 q.cells.now); same = refl }
+    sound_count g.K.Key.before (take 64 q.cells.now) q.root q.size s ∙ ap (count_below _) (length_64 q.cells.now)

@@ -1,58 +1,31 @@
-use Rattle.std.proofs.Common.{◌-◌, take, drop, None, sym, refl, ap, ◌∙◌, subst}
-use borrow.Rule.Slice.Mut.{set_vals}
-use Rattle.event_queue.proofs.Orders.{all_later}
-use Rattle.pairing_heap.specs.Sound.{Sound}
-use Rattle.pairing_heap.proofs.Changes.{keyed_others}
-use Rattle.pairing_heap.proofs.Methods.{held_64, capacity_64, there_64}
-use Rattle.pairing_heap.proofs.Parts.{carry_removed}
+use Rattle.std.proofs.Common.{◌-◌, None, sym, refl, subst}
+use Rattle.event_queue.specs.Queues.{Took}
 use Rattle.event_queue.proofs.Options.{some_none}
+use Rattle.event_queue.proofs.Keyed.{held_64}
+use Rattle.event_queue.proofs.Orders.{all_later}
+use Rattle.pairing_heap.specs.Links.{node_key}
+use Rattle.pairing_heap.specs.Meanings.{heap_meaning}
+use Rattle.pairing_heap.proofs.Methods.{only_64}
 use Rattle.pairing_heap.proofs.heap.PairingHeapQueue.take.Goals as goal
 
-pub returns-in_default : goal.returns-in_default
-returns-in_default g c =
-    let q = c.args.self.now in
-    let same = c.first.ensures.same in
-    record {
-      after = (ap (λ xs. record { cells = set_vals xs q.cells; root = q.root; size = q.size }) same, λ s i k h. absurd (some_none _ k h (c.in_default.ensures.earliest q.size s i)));
-      keeps = (refl, ap (drop 64) same);
-    }
+pub returns-in_err-first-clause-after : goal.returns-in_err-first-clause-after
+returns-in_err-first-clause-after g c =
+    subst (λ r. Took (heap_meaning g.K.Key.before) g.K.Key.before c.args.self.now c.args.self.now c.args.limit r) (sym c.from_residual.ensures)
+    (refl, λ s i k h. absurd (some_none _ k h (c.in_err-first.ensures c.args.self.now.size s i)))
 
-pub returns-then-is_before : goal.returns-then-is_before
-returns-then-is_before g c =
-    let q = c.args.self.now in
-    let same = c.first.ensures.same in
-    record {
-      after = (
-        ap (λ xs. record { cells = set_vals xs q.cells; root = q.root; size = q.size }) same,
-        λ s i k h. all_later g.K.Key.before (record { asymmetric = g.met.K.Key.asymmetric; carries = g.met.K.Key.carries }) c.args.limit c.in-Some.first.1 k (sym c.if-is_before.ensures) ((c.in-Some.ensures.earliest q.size s).1 i k h),
-      );
-      keeps = (refl, ap (drop 64) same);
-    }
+pub returns-then-is_before-clause-after : goal.returns-then-is_before-clause-after
+returns-then-is_before-clause-after g c =
+    (refl, λ s i k h. all_later g.K.Key.before (record { asymmetric = g.met.K.Key.asymmetric; carries = g.met.K.Key.carries }) c.args.limit c.in_ok-first.first.1 k (sym c.if-is_before.ensures) ((c.in_ok-first.ensures c.args.self.now.size s).1 i k h))
 
-pub returns : goal.returns
-returns g c =
+pub returns-clause-after : goal.returns-clause-after
+returns-clause-after g c s =
     let q = c.args.self.now in
-    let xs = q.cells.now in
-    let zs = c.remove_front-self.new.cells in
-    let n = c.in-Some.first.0 in
-    let key = c.in-Some.first.1 in
-    let o = g.K.Key.before in
-    let r = c.remove_front-self.result in
-    let same = c.first.ensures.same in
+    let n = c.in_ok-first.first.0 in
+    let key = c.in_ok-first.first.1 in
+    let first = c.in_ok-first.ensures q.size s in
     record {
-      after = λ s.
-          let first = c.in-Some.ensures.earliest q.size s in
-          let k = carry_removed o (take 64 c.first.new.cells) (take 64 xs) (take 64 zs) (take 64 zs) q.root r q.size (q.size - 1) n key (ap (take 64) same) refl (c.remove_front-self.ensures.keyed q.size key) s first.0 in
-          record {
-            was_held = first.0;
-            not_after = sym c.if-is_before.ensures;
-            none_before = first.1;
-            after = record {
-              sound = subst (λ m. Sound o (take 64 zs) r m) (sym c.saturating_sub-self.ensures) k.sound;
-              capacity = capacity_64 xs o zs r (q.size - 1) n None k;
-              there = there_64 xs o zs r (q.size - 1) n None k (held_64 xs n key first.0);
-              others = keyed_others (take 64 xs) (take 64 zs) n None k.keys;
-            };
-          };
-      keeps = (refl, c.remove_front-self.ensures.past ∙ ap (drop 64) same);
+      was_held = first.0;
+      not_after = sym c.if-is_before.ensures;
+      none_before = first.1;
+      after = only_64 g.K.Key.before q _ (q.size - 1) n None (held_64 node_key q.cells.now n key first.0) (c.remove_front-self.ensures.removes q.size key s first.0) (sym c.saturating_sub-self.ensures);
     }

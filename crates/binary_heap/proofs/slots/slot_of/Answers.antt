@@ -1,9 +1,0 @@
-use Rattle.std.proofs.Common.{sym}
-use Rattle.binary_heap.proofs.Columns.{slot_read, slot_past}
-use Rattle.binary_heap.proofs.slots.slot_of.Goals as goal
-
-pub returns-then-ticket-cells : goal.returns-then-ticket-cells
-returns-then-ticket-cells g c = sym (slot_read c.args.cells.now c.args.ticket c.index-cells-ticket.result c.if-ticket-cells.true)
-
-pub returns-else-ticket-cells : goal.returns-else-ticket-cells
-returns-else-ticket-cells g c = sym (slot_past c.args.cells.now c.args.ticket c.if-ticket-cells.false)

@@ -1,6 +1,0 @@
-use Rattle.std.proofs.Common.{◌≡◌, ℕ, ◌<◌, None}
-use Rattle.pairing_heap.specs.Links.{columns, key_of}
-use Rattle.pairing_heap.proofs.tickets.clear.Given as goal
-
-abbrev pub invariant-loop-cell : goal.invariant-loop-cell
-invariant-loop-cell g l = (i : ℕ) → i < l.cell-index → key_of (columns l.cells) i ≡ None
