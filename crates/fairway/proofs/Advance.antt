@@ -7,7 +7,8 @@ use Rattle.fairway.specs.Times.{Time, Proper, ◌≤ᵗ◌}
 use Rattle.fairway.specs.Courses.{faster, Due}
 use Rattle.fairway.specs.Behind.{behind}
 use Rattle.fairway.specs.declared.course.Course.{Course}
-use Rattle.fairway.specs.Orders.{Holds, Apart, Sorted, order, Pair, pair, pairs, load, fast, turns, twos, turned, Exchange, here, there, Run, still, step, Mends, none, mend, is_pair}
+use Rattle.fairway.specs.declared.pair.Pair.{Pair}
+use Rattle.fairway.specs.Orders.{Holds, Apart, Sorted, order, pair, pairs, load, fast, turns, twos, turned, Exchange, here, there, Run, still, step, Mends, none, mend, is_pair}
 use Rattle.fairway.specs.Runs.{LoadFalls, Fewest, Loses, MendsTurned}
 use Rattle.fairway.proofs.Laws.{irreflexive, differ}
 use Rattle.fairway.proofs.Kinetic.{stays}

@@ -1,8 +1,9 @@
 -- Two lists that every weighing finds alike are the same up to their order.
 use Rattle.std.proofs.Common.{◌≡◌, ℕ, ◌+◌, ◌<◌, List, [], ◌∷◌, ◌++◌, sym, refl, ap, ◌∙◌, subst, arith}
 use Rattle.std.specs.List.Sorted.{IsPermutation}
-use Rattle.std.proofs.lemmas.List.Sorted.{IsPermutation-refl, IsPermutation-cons, IsPermutation-swap, IsPermutation-trans}
-use Rattle.fairway.specs.Orders.{Pair, pair}
+use Rattle.fairway.specs.declared.pair.Pair.{Pair}
+use Rattle.std.proofs.lemmas.List.Sorted.{IsPermutation-refl, IsPermutation-cons, IsPermutation-middle, IsPermutation-sym, IsPermutation-trans}
+use Rattle.fairway.specs.Orders.{pair}
 use Rattle.fairway.proofs.Laws.{course_eq}
 use Rattle.fairway.proofs.Totals.{over, over_append}
 
@@ -38,13 +39,6 @@ module _ {X : Type 0} (same : (x y : X) → Dec (x ≡ y)) where
       go (yes e) k ih = ([], ys, ap (λ z. z ∷ ys) (sym e))
       go (no n) k ih = let f = ih (omega arith) in (y ∷ f.0, f.1, ap (λ l. y ∷ l) f.2)
 
-  middle : (x : X) (ls rs : List X) → IsPermutation (x ∷ ls ++ rs) (ls ++ (x ∷ rs))
-  middle x [] rs = IsPermutation-refl (x ∷ rs)
-  middle x (a ∷ ls) rs =
-      IsPermutation-trans (x ∷ a ∷ ls ++ rs) (a ∷ x ∷ ls ++ rs) (a ∷ ls ++ (x ∷ rs))
-      (IsPermutation-swap (x ∷ a ∷ ls ++ rs) (a ∷ x ∷ ls ++ rs) 0 1 (omega arith) (omega arith) refl)
-      (IsPermutation-cons a (x ∷ ls ++ rs) (ls ++ (x ∷ rs)) (middle x ls rs))
-
   pub shuffled_from_alike : (xs ys : List X) → ((w : X → ℕ) → over w xs ≡ over w ys) → IsPermutation xs ys
   shuffled_from_alike [] [] h = IsPermutation-refl []
   shuffled_from_alike [] (y ∷ ys) h = absurd (omega (arith, h (λ _. 1)))
@@ -54,4 +48,4 @@ module _ {X : Type 0} (same : (x y : X) → Dec (x ≡ y)) where
       let rs = f.1 in
       let ih = shuffled_from_alike xs (ls ++ rs) (λ w. omega (arith, h w, ap (over w) f.2, over_append w ls (x ∷ rs), over_append w ls rs)) in
       subst (λ l. IsPermutation (x ∷ xs) l) (sym f.2)
-      (IsPermutation-trans (x ∷ xs) (x ∷ ls ++ rs) (ls ++ (x ∷ rs)) (IsPermutation-cons x xs (ls ++ rs) ih) (middle x ls rs))
+      (IsPermutation-trans (x ∷ xs) (x ∷ ls ++ rs) (ls ++ (x ∷ rs)) (IsPermutation-cons x xs (ls ++ rs) ih) (IsPermutation-sym (ls ++ (x ∷ rs)) (x ∷ ls ++ rs) (IsPermutation-middle ls x rs)))

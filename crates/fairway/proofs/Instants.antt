@@ -1,17 +1,20 @@
 -- Instants: lowest terms, which numbers make one, and that a value has one.
-use Rattle.std.proofs.Common.{◌≡◌, ℕ, zero, suc, ◌+◌, ◌-◌, ◌*◌, ◌/◌, ◌%◌, ◌<◌, ◌≤◌, Bool, false, ◌&&◌, ◌||◌, eqb, ltb, leb, None, sym, refl, ap, ◌∙◌, subst, ⊎_elim, mul-le-mul_right, mod-eq_of_lt, mul_assoc, mul_comm, add-mul, arith}
+use Rattle.std.proofs.Common.{◌≡◌, ℕ, ◌+◌, ◌-◌, ◌*◌, ◌/◌, ◌%◌, ◌<◌, ◌≤◌, Bool, true, false, ◌⊎◌, inl, inr, ◌&&◌, ◌==◌, None, sym, refl, ap, ◌∙◌, subst, ⊎_elim, mul-le-mul_right, mod-eq_of_lt, div-le_self, add-mul, arith}
 use Prim.Native.Nat.{◌∣◌}
 use native.Mathlib.Nat.{pos_of_dvd_of_pos, div-mul_cancel, dvd-mod_iff, mul-add-mod_self_right}
 use Rattle.std.proofs.lemmas.Bool.Decides.{nat_tests}
-use Rattle.std.proofs.lemmas.Bool.{cases_order, cases_lt, lt-leb, le-ltb, ne_eqb, eqb-true, eqb-false, false≢true}
-use Rattle.event_queue.proofs.Laws.{topmost_false}
-use Rattle.fairway.specs.Times.{ratio, whole_and, ◌=ᵗ◌}
+use Rattle.std.proofs.lemmas.Bool.{cases_order, cases_lt}
+use Rattle.std.specs.Ordering.{is_lt, is_gt, ordering_then, ordering_reverse, nat_cmp}
+use Rattle.std.specs.declared.cmp.Ordering.{Ordering}
+use Rattle.std.specs.declared.cmp.Ordering.TheVariants.{Less, Equal, Greater}
+use Rattle.fairway.specs.Times.{ratio, whole_and, ◌=ᵗ◌, ◌<ᵗ◌}
 use Rattle.fairway.specs.Fractions.{CommonDivisor, Coprime, Reduced}
 use Rattle.fairway.specs.Courses.{Decides}
 use Rattle.fairway.specs.Stamps.{time_of, BelowOne}
-use Rattle.fairway.specs.Instants.{value, stamp_of, past_last, instant_refusal, SameNumbers, SameInstant}
+use Rattle.fairway.specs.StampsLemmas.{crossed, crossed_lt}
+use Rattle.fairway.specs.InstantsLemmas.{total}
+use Rattle.fairway.specs.Instants.{time_order, value, stamp_of, instant_refusal, SameNumbers, SameInstant}
 use Rattle.fairway.specs.declared.instant.Instant.{Instant}
-use Rattle.fairway.specs.declared.refusal.Refusal.TheVariants.{NoSuchInstant}
 use Rattle.fairway.proofs.Fractions.{lowers, one_form}
 
 -- ---- n / d in lowest terms, by a common divisor g
@@ -25,21 +28,12 @@ pub record Lowered (s n d n' d' : ℕ) : Type 0 where
 pub divisor_pos : (n d g : ℕ) → 0 < d → CommonDivisor n d g → 0 < g
 divisor_pos n d g h c = pos_of_dvd_of_pos c.divides_second h
 
--- q and n' / d', times g
-pub scaled : (q n' d' g n d : ℕ) → n' * g ≡ n → d' * g ≡ d → (q * d' + n') * g ≡ q * d + n
-scaled q n' d' g n d en ed = add-mul (q * d') n' g ∙ ap (λ x. x + n' * g) (mul_assoc q d' g ∙ ap (λ x. q * x) ed) ∙ ap (λ x. q * d + x) en
-
+-- q and n' / d' have the value of q and n / d, which are g times them
 pub same_value : (q n' d' g n d : ℕ) → n' * g ≡ n → d' * g ≡ d → (q * d' + n') * d ≡ (q * d + n) * d'
-same_value q n' d' g n d en ed =
-    ap (λ x. (q * d' + n') * x) (sym ed ∙ mul_comm d' g) ∙ sym (mul_assoc (q * d' + n') g d') ∙ ap (λ x. x * d') (scaled q n' d' g n d en ed)
-
-smaller_by : (d' g d : ℕ) → d' * g ≡ d → 0 < g → d' ≤ d
-smaller_by d' zero d e h = absurd (omega arith)
-smaller_by d' (suc g) d e h = omega (arith, mul-le-mul_right {m = 1} {n = suc g} d' (omega arith), mul_comm d' (suc g))
-
-none_by : (n' g : ℕ) → n' * g ≡ 0 → 0 < g → n' ≡ 0
-none_by zero g e h = refl
-none_by (suc n) g e h = absurd (omega (arith, mul-le-mul_right {m = 1} {n = suc n} g (omega arith)))
+same_value q n' d' g n d en ed = rw (← en, ← ed) (go q n' d' g)
+  where
+    go : (q n' d' g : ℕ) → (q * d' + n') * (d' * g) ≡ (q * (d' * g) + n' * g) * d'
+    go q n' d' g = grind arith
 
 pub lowered : (s n d g : ℕ) → n < d → CommonDivisor n d g → Lowered s n d (n / g) (d / g)
 lowered s n d g h c =
@@ -50,24 +44,14 @@ lowered s n d g h c =
     record {
       below = ⊎_elim (λ k. k) (λ k. absurd (omega (arith, mul-le-mul_right g k))) (cases_lt (n / g) (d / g));
       coprime = subst (λ x. Coprime (n / x) (d / x)) (sym c.value) l.1;
-      smaller = smaller_by (d / g) g d ed gp;
-      nothing = λ z. none_by (n / g) g (en ∙ z) gp;
+      smaller = div-le_self d g;
+      nothing = λ z. omega (arith, div-le_self n g);
       same = same_value s (n / g) (d / g) g n d en ed;
     }
 
 -- ---- what is accepted
-not_past : (s n : ℕ) → s ≤ 16777216 → (s ≡ 16777216 → n ≡ 0) → past_last s n ≡ false
-not_past s n h k = go s n 16777216 h k
-  where
-    go : (s n m : ℕ) → s ≤ m → (s ≡ m → n ≡ 0) → (ltb m s || (eqb s m && ltb 0 n)) ≡ false
-    go s n m h k = grind (arith, nat_tests)
-
 pub accepted : (s n d : ℕ) → 0 < d → d ≤ 1000 → n < d → s ≤ 16777216 → (s ≡ 16777216 → n ≡ 0) → instant_refusal s n d ≡ None
-accepted s n d p q h b l =
-    topmost_false NoSuchInstant (eqb d 0) _ (ne_eqb d 0 (λ e. omega arith))
-    ∙ topmost_false NoSuchInstant (ltb 1000 d) _ (le-ltb 1000 d q)
-    ∙ topmost_false NoSuchInstant (leb d n) _ (lt-leb d n h)
-    ∙ topmost_false NoSuchInstant (past_last s n) _ (not_past s n b l)
+accepted s n d p q h b l = grind (arith, nat_tests)
 
 -- ---- a value has one instant
 reduced : (i : Instant) → Reduced (value i)
@@ -102,19 +86,53 @@ same_times a b s =
     ap (λ x. whole_and x a.numerator a.denominator) s.0 ∙ ap (λ x. whole_and b.seconds x a.denominator) s.1 ∙ ap (whole_and b.seconds b.numerator) s.2 in
     ap (λ x. x.num * (value b).den) t ∙ ap (λ x. (value b).num * x.den) (sym t)
 
-pub told_same : (a b : Instant) (r : Bool) → Decides (SameNumbers a b) r → SameInstant a b r
-told_same a b r d =
+-- the three numbers compared, as the derived equality does
+same_tests : (s n d t m e : ℕ) (r : Bool) → r ≡ (s == t && (n == m && d == e)) → Decides ((s ≡ t) × (n ≡ m) × (d ≡ e)) r
+same_tests s n d t m e r h = (
+  (λ y. (grind (arith, nat_tests), grind (arith, nat_tests), grind (arith, nat_tests))),
+  (λ y p. let a = p.0 in let b = p.1 in let c = p.2 in grind (arith, nat_tests)),
+)
+
+pub told_same : (a b : Instant) (r : Bool) → r ≡ (a.seconds == b.seconds && (a.numerator == b.numerator && a.denominator == b.denominator)) → SameInstant a b r
+told_same a b r h =
+    let d : Decides (SameNumbers a b) r = same_tests a.seconds a.numerator a.denominator b.seconds b.numerator b.denominator r h in
     record {
       by_value = ((λ e. same_times a b (d.0 e)), (λ e v. d.1 e (one_instant a b v)));
       by_numbers = d;
       one_form = one_instant a b;
     }
 
-pub differ : (P : Type 0) → (P → ⊥) → Decides P false
-differ P n = ((λ e. absurd (false≢true e)), (λ e p. n p))
+-- ---- the order of instants is the order of time
+less_yes : (s t x y : ℕ) → is_lt (ordering_then (nat_cmp s t) (nat_cmp x y)) ≡ true → (s < t) ⊎ ((s ≡ t) × (x < y))
+less_yes s t x y e =
+    ⊎_elim (λ i. inr (i, grind (arith, nat_tests))) (⊎_elim (λ l. inl l) (λ l. absurd (grind (arith, nat_tests)))) (cases_order s t)
 
-pub same_by_last : (a b : Instant) → a.seconds ≡ b.seconds → a.numerator ≡ b.numerator → Decides (SameNumbers a b) (eqb a.denominator b.denominator)
-same_by_last a b s n = ((λ e. (s, n, eqb-true a.denominator b.denominator e)), (λ e p. eqb-false a.denominator b.denominator e p.2))
+less_no : (s t x y : ℕ) → is_lt (ordering_then (nat_cmp s t) (nat_cmp x y)) ≡ false → (t ≤ s) × (s ≡ t → y ≤ x)
+less_no s t x y e = (grind (arith, nat_tests), λ h. grind (arith, nat_tests))
+
+earlier_by : (a b : Instant) → Decides (value a <ᵗ value b) (is_lt (time_order a b))
+earlier_by a b =
+    let p : a.numerator < a.denominator = a.below in
+    let q : b.numerator < b.denominator = b.below in (
+      (λ e.
+          crossed_lt a.seconds a.numerator a.denominator b.seconds b.numerator b.denominator p (omega arith)
+          (less_yes a.seconds b.seconds (a.numerator * b.denominator) (b.numerator * a.denominator) e)),
+      (λ e h.
+          let n = less_no a.seconds b.seconds (a.numerator * b.denominator) (b.numerator * a.denominator) e in
+          let k = crossed b.seconds b.numerator b.denominator a.seconds a.numerator a.denominator q n.0 n.1 in
+          omega arith),
+    )
+
+pub told_before : (a b : Instant) (r : Bool) → r ≡ is_lt (time_order a b) → Decides (value a <ᵗ value b) r
+told_before a b r e = subst (Decides (value a <ᵗ value b)) (sym e) (earlier_by a b)
+
+turned_test : (o : Ordering) → is_lt (ordering_reverse o) ≡ is_gt o
+turned_test Less = refl
+turned_test Equal = refl
+turned_test Greater = refl
+
+pub told_after : (a b : Instant) (r : Bool) → r ≡ is_gt (time_order a b) → Decides (value b <ᵗ value a) r
+told_after a b r e = told_before b a r (e ∙ sym (ap is_lt (total.antisymm b a) ∙ turned_test (time_order a b)))
 
 -- ---- an instant as a stamp
 pub stamp_time : (i : Instant) → time_of (stamp_of i) ≡ value i

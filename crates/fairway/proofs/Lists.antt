@@ -1,17 +1,22 @@
 -- Lists of courses, place by place: neighbours, counts of pairs, an exchange.
-use Rattle.std.proofs.Common.{◌≡◌, ℕ, zero, suc, ◌+◌, ◌-◌, ◌*◌, ◌^◌, ◌<◌, ◌≤◌, true, false, cond, List, [], ◌∷◌, length, get_or, drop, set, pos, Some, None, sum_by, Option, sym, refl, ap, ◌∙◌, subst, ⊎_elim, add-mul, mul-le-mul, add-one, arith, drop-cons}
-use Rattle.std.proofs.lemmas.Bool.{cases_lt, true≢false, false≢true}
+use Rattle.std.proofs.Common.{◌≡◌, ℕ, zero, suc, ◌+◌, ◌<◌, ◌≤◌, Bool, true, false, not, cond, List, [], ◌∷◌, length, get_or, set, pos, Some, None, sum_by, Option, sym, refl, ap, ◌∙◌, subst, add-zero, add-one, arith}
+use Rattle.std.specs.Borrow.{Bor}
+use Rattle.std.specs.Option.{IfSome, IsSomeAnd}
+use Rattle.std.specs.List.{AllAdjacentBelow, IsAllAdjacentAnswer, IsSubsliceAt, swap}
+use Rattle.std.proofs.lemmas.Bool.{both_ways, true≢false, false≢true}
+use Rattle.std.proofs.lemmas.List.Edits.{swap_is}
 use Rattle.event_queue.proofs.Options.{none_some, some_same}
 use Rattle.fairway.specs.Times.{Time, Proper}
-use Rattle.fairway.specs.Courses.{faster, Due}
+use Rattle.fairway.specs.Courses.{Decides, Due}
 use Rattle.fairway.specs.Behind.{behind}
-use Rattle.fairway.specs.Orders.{Pair, pair, load, turns, turned, slower_than, turned_by, Exchange, here, there}
+use Rattle.fairway.specs.Pairs.{Past}
+use Rattle.fairway.specs.Orders.{pair, turns, turned, turned_by, Exchange, here, there}
 use Rattle.fairway.specs.Standing.{Neighbours, NotLevelBefore}
 use Rattle.fairway.specs.Lists.{pair_at, SortedAnswer, TurnedCount, FirstDue, StandsUntil, Exchanged}
 use Rattle.fairway.specs.declared.course.Course.{Course}
 use Rattle.fairway.proofs.Totals.{over, over_is, over_all, length_over}
 use Rattle.fairway.proofs.Sorting.{order_is}
-use Rattle.fairway.proofs.Advance.{load_is, over_turned, load_falls, fewest, mends_turned, loses_one, due_faster}
+use Rattle.fairway.proofs.Advance.{over_turned, load_falls, fewest, mends_turned, loses_one, due_faster}
 use Rattle.fairway.proofs.Standings.{chain, sorted_near, stands_sorted, stands_later, stands_mended}
 
 -- what a list is read as past its end
@@ -25,55 +30,49 @@ pair_get (x ∷ []) i d h = absurd (omega arith)
 pair_get (x ∷ y ∷ ys) zero d h = refl
 pair_get (x ∷ y ∷ ys) (suc i) d h = pair_get (y ∷ ys) i d (omega arith)
 
-pub pair_past : (xs : List Course) (i : ℕ) → length xs ≤ suc i → pair_at xs i ≡ None
-pair_past [] i h = refl
-pair_past (x ∷ []) i h = refl
-pair_past (x ∷ y ∷ ys) zero h = absurd (omega arith)
-pair_past (x ∷ y ∷ ys) (suc i) h = pair_past (y ∷ ys) i (omega arith)
-
--- the one before p, and that at p
-pub pair_mid : (xs : List Course) (p : ℕ) (d : Course) → 0 < p → p < length xs → pair_at xs (p - 1) ≡ Some (pair (get_or xs (p - 1) d) (get_or xs p d))
-pair_mid xs p d h k =
-    let e : suc (p - 1) ≡ p = omega arith in
-    subst (λ z. pair_at xs (p - 1) ≡ Some (pair (get_or xs (p - 1) d) (get_or xs z d))) e (pair_get xs (p - 1) d (omega arith))
-
-pub same_pair : (a b r f : Course) (o : Option Pair) → o ≡ Some (pair a b) → o ≡ Some (pair r f) → (a ≡ r) × (b ≡ f)
-same_pair a b r f o e g =
-    let q : pair a b ≡ pair r f = some_same (sym e ∙ g) in
-    (ap (λ z. z.rear) q, ap (λ z. z.front) q)
-
--- P of the neighbours up to the place p
-abbrev pub Checked : (Course → Course → Type 0) → List Course → ℕ → Type 0
-Checked P xs p = (k : ℕ) (r f : Course) → suc k < p → pair_at xs k ≡ Some (pair r f) → P r f
+pub pair_there : (xs : List Course) (i : ℕ) (d r f : Course) → pair_at xs i ≡ Some (pair r f) → (suc i < length xs) × (get_or xs i d ≡ r) × (get_or xs (suc i) d ≡ f)
+pair_there [] i d r f e = absurd (none_some e)
+pair_there (x ∷ []) i d r f e = absurd (none_some e)
+pair_there (x ∷ y ∷ ys) zero d r f e = let q = some_same e in (omega arith, ap (λ z. z.rear) q, ap (λ z. z.front) q)
+pair_there (x ∷ y ∷ ys) (suc i) d r f e = let h = pair_there (y ∷ ys) i d r f e in (omega arith, h.1, h.2)
 
 module _ (P : Course → Course → Type 0) where
-  pub checked_none : (xs : List Course) → Checked P xs 1
-  checked_none xs k r f h e = absurd (omega arith)
+  pub neighbours : (xs : List Course) (d : Course) → ((k : ℕ) → k + 1 < length xs → P (get_or xs k d) (get_or xs (k + 1) d)) → Neighbours P xs
+  neighbours [] d h = tt
+  neighbours (x ∷ []) d h = tt
+  neighbours (x ∷ y ∷ ys) d h = (
+    h 0 (omega arith),
+    neighbours (y ∷ ys) d (λ k l.
+        let e : suc k + 1 ≡ suc (k + 1) = omega arith in
+        subst (λ n. P (get_or (y ∷ ys) k d) (get_or (x ∷ y ∷ ys) n d)) e (h (suc k) (omega arith))),
+  )
 
-  pub checked_more : (xs : List Course) (p : ℕ) (d : Course) → 0 < p → p < length xs → Checked P xs p → P (get_or xs (p - 1) d) (get_or xs p d) → Checked P xs (p + 1)
-  checked_more xs p d h l c q k r f i e =
-      ⊎_elim (λ j. c k r f j e)
-      (λ j. let z : p - 1 ≡ k = omega arith in
-      let s = same_pair (get_or xs (p - 1) d) (get_or xs p d) r f (pair_at xs k) (ap (pair_at xs) (sym z) ∙ pair_mid xs p d h l) e in
-      subst (λ x. P x f) s.0 (subst (λ y. P (get_or xs (p - 1) d) y) s.1 q))
-      (cases_lt (suc k) p)
+  pub all_adjacent : (xs : List Course) → Neighbours P xs → AllAdjacentBelow P xs (length xs)
+  all_adjacent [] n k d h = absurd (omega arith)
+  all_adjacent (x ∷ []) n k d h = absurd (omega arith)
+  all_adjacent (x ∷ y ∷ ys) n zero d h = n.0
+  all_adjacent (x ∷ y ∷ ys) n (suc k) d h =
+      let e : suc (k + 1) ≡ suc k + 1 = omega arith in
+      subst (λ m. P (get_or (y ∷ ys) k d) (get_or (x ∷ y ∷ ys) m d)) e (all_adjacent (y ∷ ys) n.1 k d (omega arith))
 
-  of_pairs : (xs : List Course) → ((k : ℕ) (r f : Course) → pair_at xs k ≡ Some (pair r f) → P r f) → Neighbours P xs
-  of_pairs [] h = tt
-  of_pairs (x ∷ []) h = tt
-  of_pairs (x ∷ y ∷ ys) h = (h 0 x y refl, of_pairs (y ∷ ys) (λ k r f e. h (suc k) r f e))
+  -- what holds of the two at a place holds of the pair there
+  pub at_pair : (xs : List Course) (i : ℕ) (d r f : Course) → (i + 1 < length xs → P (get_or xs i d) (get_or xs (i + 1) d)) → pair_at xs i ≡ Some (pair r f) → P r f
+  at_pair xs i d r f h e =
+      let p = pair_there xs i d r f e in
+      subst (λ x. P x f) p.1 (subst (λ y. P (get_or xs i d) y) p.2 (subst (λ n. P (get_or xs i d) (get_or xs n d)) (add-one i) (h (omega arith))))
 
-  pub all_checked : (xs : List Course) (p : ℕ) → length xs ≤ p → Checked P xs p → Neighbours P xs
-  all_checked xs p h c =
-      of_pairs xs (λ k r f e. ⊎_elim (λ j. c k r f j e) (λ j. absurd (none_some (sym (pair_past xs k (omega arith)) ∙ e))) (cases_lt (suc k) p))
+-- what a call tells of the two in a window holds of the two at its place
+pub of_window : {R : Bor (List Course) → Type 0} (Q : Course → Course → Type 0) (xs ys : List Course) (n i : ℕ) (o : Option (Bor (List Course))) → ys ≡ xs → n ≡ 2 →
+    IfSome o (λ x. (length x.now ≡ n) × (i + n ≤ length ys) × IsSubsliceAt n ys i x.now) → IsSomeAnd o R →
+    ((x : Bor (List Course)) → R x → Q (get_or x.now 0 nobody) (get_or x.now 1 nobody)) → (i + 1 < length xs) × Q (get_or xs i nobody) (get_or xs (i + 1) nobody)
+of_window Q xs ys n i None e f w h told = absurd h
+of_window Q xs ys n i (Some x) e f w h told =
+    let l : i + 1 < length ys = omega arith in
+    let a : get_or x.now 0 nobody ≡ get_or ys i nobody = rw add-zero at (w.2.2 0 nobody (omega arith)) in
+    let b : get_or x.now 1 nobody ≡ get_or ys (i + 1) nobody = w.2.2 1 nobody (omega arith) in
+    subst (λ zs. (i + 1 < length zs) × Q (get_or zs i nobody) (get_or zs (i + 1) nobody)) e (l, subst (λ z. Q z (get_or ys (i + 1) nobody)) a (subst (λ z. Q (get_or x.now 0 nobody) z) b (told x h)))
 
-  pub at_pair : (xs : List Course) (k : ℕ) (r f : Course) → Neighbours P xs → pair_at xs k ≡ Some (pair r f) → P r f
-  at_pair [] k r f n e = absurd (none_some e)
-  at_pair (x ∷ []) k r f n e = absurd (none_some e)
-  at_pair (x ∷ y ∷ ys) zero r f n e = let s = same_pair x y r f (Some (pair x y)) refl e in subst (λ z. P z f) s.0 (subst (λ z. P x z) s.1 n.0)
-  at_pair (x ∷ y ∷ ys) (suc k) r f n e = at_pair (y ∷ ys) k r f n.1 e
-
--- ---- what the loops over neighbours ask of each two
+-- ---- what the calls ask of each two neighbours
 abbrev pub InOrderAt : Time → Course → Course → Type 0
 InOrderAt t r f = behind t r f ≡ true
 
@@ -81,31 +80,51 @@ abbrev pub NotDue : Time → Course → Course → Type 0
 NotDue t r f = Due t r f → ⊥
 
 -- ---- the answers
-pub sorted_yes : (t : Time) → Proper t → (xs : List Course) → Neighbours (InOrderAt t) xs → SortedAnswer t xs true
-sorted_yes t pr xs n =
-    let s = chain t xs n in
+pub sorted_told : (t : Time) → Proper t → (xs : List Course) (answer : Bool) → IsAllAdjacentAnswer (λ x y b. b ≡ behind t x y) xs answer → SortedAnswer t xs answer
+sorted_told t pr xs true h =
+    let s = chain t xs (neighbours (InOrderAt t) xs nobody (λ k l. sym (h k nobody l))) in
     record {
       value = ((λ e. s), (λ e h. true≢false e));
       is_order = λ e roster a m. (order_is t pr roster a).only xs s m;
       one_order = order_is t pr xs;
     }
-
-pub sorted_no : (t : Time) → Proper t → (xs : List Course) → (Neighbours (InOrderAt t) xs → ⊥) → SortedAnswer t xs false
-sorted_no t pr xs n =
+sorted_told t pr xs false h =
     record {
-      value = ((λ e. absurd (false≢true e)), (λ e s. n (sorted_near t xs s)));
+      value =
+          ((λ e. absurd (false≢true e)), (λ e s. both_ways _ (sym (h.2 nobody)) (all_adjacent (InOrderAt t) xs (sorted_near t xs s) h.0 nobody h.1)));
       is_order = λ e. absurd (false≢true e);
       one_order = order_is t pr xs;
     }
 
-pub none_due : (t : Time) (xs : List Course) → Neighbours (NotDue t) xs → FirstDue t xs None
-none_due t xs n = (n, λ s. stands_sorted t xs s n)
+pub until_told : (u : Time) → Proper u → (xs : List Course) (past : Bool) →
+    (past ≡ false → (k : ℕ) → k + 1 < length xs → Past u (get_or xs k nobody) (get_or xs (k + 1) nobody) false) →
+    (past ≡ true → (k : ℕ) × (k + 1 < length xs) × Past u (get_or xs k nobody) (get_or xs (k + 1) nobody) true) → StandsUntil u xs (not past)
+until_told u pu xs false n y =
+    let h = neighbours (NotLevelBefore u) xs nobody (λ k l. (n refl k l).0 refl) in
+    record { value = ((λ e. h), (λ e g. true≢false e)); stands_on = λ e t pt l s. stands_later t u pt pu l xs s h }
+until_told u pu xs true n y =
+    let k = (y refl).0 in
+    let l : k + 1 < length xs = (y refl).1 in
+    let p : Past u (get_or xs k nobody) (get_or xs (k + 1) nobody) true = (y refl).2 in
+    record {
+      value = ((λ e. absurd (false≢true e)), (λ e g. p.1 refl (all_adjacent (NotLevelBefore u) xs g k nobody l)));
+      stands_on = λ e. absurd (false≢true e);
+    }
 
-pub until_yes : (u : Time) → Proper u → (xs : List Course) → Neighbours (NotLevelBefore u) xs → StandsUntil u xs true
-until_yes u pu xs n = record { value = ((λ e. n), (λ e h. true≢false e)); stands_on = λ e t pt l s. stands_later t u pt pu l xs s n }
-
-pub until_no : (u : Time) (xs : List Course) → (Neighbours (NotLevelBefore u) xs → ⊥) → StandsUntil u xs false
-until_no u xs n = record { value = ((λ e. absurd (false≢true e)), (λ e h. n h)); stands_on = λ e. absurd (false≢true e) }
+pub due_told : (t : Time) (xs : List Course) (r : Option ℕ) →
+    (r ≡ None → (k : ℕ) → k + 1 < length xs → Decides (Due t (get_or xs k nobody) (get_or xs (k + 1) nobody)) false) →
+    ((i : ℕ) → r ≡ Some i → (i + 1 < length xs) × Decides (Due t (get_or xs i nobody) (get_or xs (i + 1) nobody)) true) →
+    ((i : ℕ) → r ≡ Some i → (k : ℕ) → k < i → Decides (Due t (get_or xs k nobody) (get_or xs (k + 1) nobody)) false) → FirstDue t xs r
+due_told t xs None n y b = let h = neighbours (NotDue t) xs nobody (λ k l. (n refl k l).1 refl) in (h, λ s. stands_sorted t xs s h)
+due_told t xs (Some i) n y b =
+    let q = y i refl in
+    record {
+      rear = get_or xs i nobody;
+      front = get_or xs (i + 1) nobody;
+      there = rw add-one (pair_get xs i nobody (omega arith));
+      due = q.1.0 refl;
+      first = λ k r f l e. at_pair (NotDue t) xs k nobody r f (λ m. (b i refl k l).1 refl) e;
+    }
 
 -- ---- an exchange
 sets : (xs : List Course) (i : ℕ) (d : Course) → suc i < length xs → Exchange (get_or xs i d) (get_or xs (suc i) d) xs (set (set xs i (get_or xs (suc i) d)) (suc i) (get_or xs i d))
@@ -114,43 +133,20 @@ sets (x ∷ []) i d h = absurd (omega arith)
 sets (x ∷ y ∷ ys) zero d h = here
 sets (x ∷ y ∷ ys) (suc i) d h = there (sets (y ∷ ys) i d (omega arith))
 
-exchanged_suc : (t : Time) (xs : List Course) (i : ℕ) (d : Course) → suc i < length xs → Due t (get_or xs i d) (get_or xs (suc i) d) →
-    Exchanged t xs (set (set xs i (get_or xs (suc i) d)) (suc i) (get_or xs i d)) i (get_or xs i d) (get_or xs (suc i) d)
-exchanged_suc t xs i d h due =
-    let e = sets xs i d h in
-    let ys = set (set xs i (get_or xs (suc i) d)) (suc i) (get_or xs i d) in
+pub exchanged : (t : Time) (xs ys : List Course) (i : ℕ) (d : Course) → i + 1 < length xs → ys ≡ swap xs i (i + 1) → Due t (get_or xs i d) (get_or xs (i + 1) d) → Exchanged t xs ys i (get_or xs i d) (get_or xs (i + 1) d)
+exchanged t xs ys i d h w due =
     let r = get_or xs i d in
-    let f = get_or xs (suc i) d in
+    let f = get_or xs (i + 1) d in
+    let e : Exchange r f xs ys = subst (Exchange r f xs) (swap_is xs i (i + 1) d (omega arith) h ∙ sym w) (rw add-one (sets xs i d (omega arith))) in
     record {
-      were = pair_get xs i d h;
+      were = rw add-one (pair_get xs i d (omega arith));
       due = due;
       exchange = e;
       loses = loses_one r f xs ys (due_faster t r f due) e;
       stands = λ s. stands_mended t r f xs ys s due e;
     }
 
-pub exchanged : (t : Time) (xs : List Course) (i : ℕ) (d : Course) → suc i < length xs → Due t (get_or xs i d) (get_or xs (i + 1) d) →
-    Exchanged t xs (set (set xs i (get_or xs (i + 1) d)) (i + 1) (get_or xs i d)) i (get_or xs i d) (get_or xs (i + 1) d)
-exchanged t xs i d h due =
-    subst (λ k. Exchanged t xs (set (set xs i (get_or xs k d)) k (get_or xs i d)) i (get_or xs i d) (get_or xs k d)) (sym (add-one i))
-    (exchanged_suc t xs i d h (subst (λ k. Due t (get_or xs i d) (get_or xs k d)) (add-one i) due))
-
--- a place without a next one, and one whose pair is not due
-pub past_end : (t : Time) (xs : List Course) (i : ℕ) → length xs ≤ suc i → (r f : Course) → pair_at xs i ≡ Some (pair r f) → Due t r f → ⊥
-past_end t xs i h r f e d = none_some (sym (pair_past xs i h) ∙ e)
-
-pub not_due_at : (t : Time) (xs : List Course) (i : ℕ) (d : Course) → suc i < length xs → (Due t (get_or xs i d) (get_or xs (i + 1) d) → ⊥) → (r f : Course) → pair_at xs i ≡ Some (pair r f) → Due t r f → ⊥
-not_due_at t xs i d h n r f e due =
-    let s = same_pair (get_or xs i d) (get_or xs (suc i) d) r f (pair_at xs i) (pair_get xs i d h) e in
-    n (subst (λ k. Due t (get_or xs i d) (get_or xs k d)) (sym (add-one i)) (subst (λ x. Due t x (get_or xs (suc i) d)) (sym s.0) (subst (λ y. Due t r y) (sym s.1) due)))
-
 -- ---- counts
-load_cons : (x : Course) (xs : List Course) → load (x ∷ xs) ≡ slower_than x xs + load xs
-load_cons x xs = omega (arith, load_is (x ∷ xs), load_is xs, over_is (λ y. cond (faster x y) 1 0) xs)
-
-pub load_drop : (xs : List Course) (i : ℕ) (d : Course) → i < length xs → load (drop i xs) ≡ slower_than (get_or xs i d) (drop (i + 1) xs) + load (drop (i + 1) xs)
-load_drop xs i d h = rw add-one (ap load (drop-cons xs i d h) ∙ load_cons (get_or xs i d) (drop (suc i) xs))
-
 pub turned_total : (t u : Time) (xs : List Course) → sum_by (λ x. turned_by t u x xs) xs ≡ length (turned t u xs)
 turned_total t u xs =
     over_is (λ x. turned_by t u x xs) xs
@@ -160,12 +156,3 @@ turned_total t u xs =
 pub turned_count : (t u : Time) → Proper t → Proper u → (xs : List Course) (r : ℕ) → r ≡ sum_by (λ x. turned_by t u x xs) xs → TurnedCount t u xs r
 turned_count t u pt pu xs r e =
     record { value = e ∙ turned_total t u xs; load_falls = load_falls t u pt pu xs; fewest = fewest t u pt pu xs; mends = mends_turned t u pt pu xs }
-
--- pairs of fewer than 2 ^ 64 fit 128 bits
-pub rises : (p n t c : ℕ) → t ≤ p * n → c ≤ n → t + c ≤ (p + 1) * n
-rises p n t c h k = omega (arith, add-mul p 1 n)
-
-pub room : (p n t c : ℕ) → p < n → n < 2 ^ 64 → t ≤ p * n → c ≤ n → t + c < 2 ^ 128
-room p n t c h s i j =
-    let a : (p + 1) * n ≤ 18446744073709551615 * 18446744073709551615 = mul-le-mul {n₁ = p + 1} {m₁ = n} {n₂ = 18446744073709551615} {m₂ = 18446744073709551615} (omega arith) (omega arith) in
-    omega (arith, rises p n t c i j)

@@ -1,46 +1,31 @@
--- The load of a list: when a course is put in, and how large it can be.
-use Rattle.std.proofs.Common.{◌≡◌, ℕ, zero, suc, ◌+◌, ◌*◌, ◌≤◌, true, false, cond, List, [], ◌∷◌, ◌++◌, length, take, drop, refl, suc-mul, mul-suc, arith}
+-- The load of a list: course by course, and how large it can be.
+use Rattle.std.proofs.Common.{◌≡◌, ℕ, zero, suc, ◌+◌, ◌-◌, ◌*◌, ◌^◌, ◌<◌, ◌≤◌, cond, List, [], ◌∷◌, length, get_or, take, drop, suc-mul, mul-suc, mul-le-mul, arith}
+use Rattle.std.proofs.lemmas.List.{take_rest}
+use Rattle.std.proofs.lemmas.List.Sums.{count_by-le-length}
 use Rattle.fairway.specs.Courses.{faster}
-use Rattle.fairway.specs.Orders.{load}
+use Rattle.fairway.specs.Orders.{load, slower_than}
 use Rattle.fairway.specs.declared.course.Course.{Course}
-use Rattle.fairway.proofs.Totals.{over, tri}
+use Rattle.fairway.proofs.Totals.{over_is}
 use Rattle.fairway.proofs.Advance.{load_is}
 
--- 1 for a pair with a faster rear
-abbrev pub one_fast : Course → Course → ℕ
-one_fast x y = cond (faster x y) 1 0
+-- the first course as rear, and the load of the rest
+load_cons : (x : Course) (xs : List Course) → load (x ∷ xs) ≡ slower_than x xs + load xs
+load_cons x xs = omega (arith, load_is (x ∷ xs), load_is xs, over_is (λ y. cond (faster x y) 1 0) xs)
 
--- x put in at i: a pair for each before it, and for each after it
-over_put_in : (f : Course → ℕ) (xs : List Course) (i : ℕ) (x : Course) → over f (take i xs ++ x ∷ drop i xs) ≡ f x + over f xs
-over_put_in f [] zero x = refl
-over_put_in f [] (suc i) x = refl
-over_put_in f (y ∷ ys) zero x = refl
-over_put_in f (y ∷ ys) (suc i) x = omega (arith, over_put_in f ys i x)
-
-tri_put_in : (g : Course → Course → ℕ) (xs : List Course) (i : ℕ) (x : Course) →
-    tri g (take i xs ++ x ∷ drop i xs) ≡ tri g xs + (over (λ y. g y x) (take i xs) + over (g x) (drop i xs))
-tri_put_in g [] zero x = refl
-tri_put_in g [] (suc i) x = refl
-tri_put_in g (y ∷ ys) zero x = omega arith
-tri_put_in g (y ∷ ys) (suc i) x = omega (arith, over_put_in (g y) ys i x, tri_put_in g ys i x)
-
-pub load_put_in : (xs : List Course) (i : ℕ) (x : Course) →
-    load (take i xs ++ x ∷ drop i xs) ≡ load xs + (over (λ y. one_fast y x) (take i xs) + over (one_fast x) (drop i xs))
-load_put_in xs i x = omega (arith, load_is (take i xs ++ x ∷ drop i xs), load_is xs, tri_put_in one_fast xs i x)
+pub load_rest : (xs : List Course) (d : Course) → 0 < length xs → load xs ≡ slower_than (get_or xs 0 d) (take (length xs - 1) (drop 1 xs)) + load (drop 1 xs)
+load_rest [] d h = absurd (omega arith)
+load_rest (x ∷ xs) d h = rw (take_rest (x ∷ xs) 1) (load_cons x xs)
 
 -- at most n (n - 1) / 2 pairs
-over_le : (f : Course → ℕ) → ((x : Course) → f x ≤ 1) → (xs : List Course) → over f xs ≤ length xs
-over_le f h [] = omega arith
-over_le f h (x ∷ xs) = omega (arith, h x, over_le f h xs)
-
-one_le : (x y : Course) → one_fast x y ≤ 1
-one_le x y = elim (faster x y) as (λ b. cond b 1 0 ≤ 1) [ true ↦ omega arith | false ↦ omega arith ]
-
-tri_le : (xs : List Course) (k : ℕ) → length xs ≤ k → tri one_fast xs + tri one_fast xs + k ≤ k * k
-tri_le [] zero h = omega arith
-tri_le [] (suc k) h = omega (arith, suc-mul k (suc k))
-tri_le (x ∷ xs) zero h = absurd (omega arith)
-tri_le (x ∷ xs) (suc k) h = omega (arith, over_le (one_fast x) (one_le x) xs, tri_le xs k (omega arith), suc-mul k (suc k), mul-suc k k)
-
 pub load_le : (xs : List Course) (k : ℕ) → length xs ≤ k → load xs + load xs + k ≤ k * k
-load_le xs k h = omega (arith, load_is xs, tri_le xs k h)
+load_le [] zero h = omega arith
+load_le [] (suc k) h = omega (arith, suc-mul k (suc k))
+load_le (x ∷ xs) zero h = absurd (omega arith)
+load_le (x ∷ xs) (suc k) h =
+    omega (arith, load_cons x xs, count_by-le-length (faster x) xs, load_le xs k (omega arith), suc-mul k (suc k), mul-suc k k)
+
+-- so fewer than 2 ^ 64 courses have a load of 128 bits
+pub load_fits : (xs : List Course) → length xs < 2 ^ 64 → load xs < 2 ^ 128
+load_fits xs h =
+    let s : length xs * length xs ≤ 18446744073709551615 * 18446744073709551615 = mul-le-mul {n₁ = length xs} {m₁ = length xs} {n₂ = 18446744073709551615} {m₂ = 18446744073709551615} (omega arith) (omega arith) in
+    omega (arith, load_le xs (length xs) (omega arith))

@@ -1,5 +1,5 @@
 -- Level instants: lowest terms, the pair before and after, and the bounds.
-use Rattle.std.proofs.Common.{◌≡◌, ℕ, ◌+◌, ◌-◌, ◌*◌, ◌/◌, ◌%◌, ◌<◌, ◌≤◌, true, false, ◌&&◌, ℤ, pos, negsuc, ◌+ℤ◌, ◌-ℤ◌, ◌*ℤ◌, nat_abs, ◌≤ℤ◌, ◌<ℤ◌, Some, None, sym, refl, ap, ◌∙◌, subst, inl, inr, ⊎_elim, mul-le-mul_right, mod-lt, mul_comm, mul-lt-mul_of_pos_right, div-le_self, mul_right_comm, le_of_mul-le-mul_right, arith}
+use Rattle.std.proofs.Common.{◌≡◌, ℕ, ◌+◌, ◌-◌, ◌*◌, ◌/◌, ◌%◌, ◌<◌, ◌≤◌, true, false, ◌&&◌, ℤ, pos, negsuc, ◌+ℤ◌, ◌-ℤ◌, ◌*ℤ◌, nat_abs, ◌≤ℤ◌, ◌<ℤ◌, Some, None, sym, refl, ap, ◌∙◌, subst, inl, inr, ⊎_elim, mul-le-mul_right, mod-lt, mul_comm, mul-lt-mul_of_pos_right, div-le_self, le_of_mul-le-mul_right, arith}
 use native.Mathlib.Nat.{div-add-mod}
 use lib.Signed.{le_z}
 use Rattle.std.proofs.lemmas.Int.{ints, by_lt_z}
@@ -14,7 +14,7 @@ use Rattle.fairway.specs.Meetings.{lowest_stamp, gap, gain, level, TurnsAt, Leve
 use Rattle.fairway.specs.Standing.{NotLevelBefore}
 use Rattle.fairway.specs.declared.course.Course.{Course}
 use Rattle.fairway.specs.declared.stamp.Stamp.{Stamp}
-use Rattle.fairway.proofs.Fractions.{common_divisor}
+use Rattle.fairway.proofs.Fractions.{gcd_is, common_divisor}
 use Rattle.fairway.proofs.Instants.{lowered}
 use Rattle.fairway.proofs.Kinetic.{sub_mul, passes, stays}
 
@@ -31,7 +31,7 @@ unfolding lowest_stamp
 lowest_is n d h =
     let g : ℕ = gcd (n % d) d in
     let m : n % d < d = mod-lt n h in
-    let l = lowered (n / d) (n % d) d g m (common_divisor (n % d) d g refl) in
+    let l = lowered (n / d) (n % d) d g m (common_divisor (n % d) d g (gcd_is (n % d) d)) in
     let p : 0 < d / g = omega (arith, l.below) in
     let e : d / g ≡ d / g - 1 + 1 = omega arith in
     let q : n / d * d + n % d ≡ n = ap (λ x. x + n % d) (mul_comm (n / d) d) ∙ div-add-mod n d in
@@ -48,9 +48,7 @@ same_lt : (n d a b x y : ℕ) → 0 < b → 0 < y → a * y ≡ x * b → n * b 
 same_lt n d a b x y p q e h =
     let i : n * b * y < a * d * y = mul-lt-mul_of_pos_right h q in
     let j : a * y * d ≡ x * b * d = ap (λ z. z * d) e in
-    ⊎_elim (λ k. k)
-    (λ k. absurd (omega (arith, mul-le-mul_right b k, mul_right_comm n b y, mul_right_comm a d y, mul_right_comm x b d)))
-    (cases_lt (n * y) (x * d))
+    ⊎_elim (λ k. k) (λ k. let m = mul-le-mul_right b k in absurd (grind arith)) (cases_lt (n * y) (x * d))
 
 same_le : (n d a b x y : ℕ) → 0 < b → 0 < y → a * y ≡ x * b → a * d ≤ n * b → x * d ≤ n * y
 same_le n d a b x y p q e h =
@@ -197,7 +195,7 @@ same_not_later : (n d a b x y : ℕ) → 0 < b → a * y ≡ x * b → n * b ≤
 same_not_later n d a b x y p e h =
     let i : n * b * y ≤ a * d * y = mul-le-mul_right y h in
     let j : a * y * d ≡ x * b * d = ap (λ z. z * d) e in
-    le_of_mul-le-mul_right {k = b} (omega (arith, mul_right_comm n b y, mul_right_comm a d y, mul_right_comm x b d, mul_right_comm n y b, mul_right_comm x d b)) p
+    le_of_mul-le-mul_right {k = b} (grind arith) p
 
 le_back : (x y : ℤ) (D G n d : ℕ) → x ≡ pos G → y ≡ pos D → n * G ≤ D * d → (x *ℤ pos n) ≤ℤ (y *ℤ pos d)
 le_back x y D G n d e g h = rw (e, g) (omega (arith, ints, mul_comm n G))

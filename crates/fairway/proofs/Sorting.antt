@@ -1,8 +1,8 @@
 -- The order of a roster.
-use Rattle.std.proofs.Common.{◌≡◌, ℕ, ◌+◌, Bool, true, false, cond, ◌≢◌, List, [], ◌∷◌, sym, refl, ap, ◌∙◌, subst, inl, inr, ⊎_elim, arith}
+use Rattle.std.proofs.Common.{◌≡◌, ℕ, ◌+◌, true, false, cond, ◌≢◌, List, [], ◌∷◌, sym, refl, ap, ◌∙◌, subst, inl, inr, ⊎_elim, arith}
 use Rattle.std.specs.List.{AllByRecursion}
 use Rattle.std.proofs.ByRecursion.{All-weaker}
-use Rattle.std.proofs.lemmas.Bool.{cond_both, cond-true, cond-false, both_ways}
+use Rattle.std.proofs.lemmas.Bool.{cond_both, cond-true, cond-false, both_ways, false_from_ne_true}
 use Rattle.fairway.specs.Times.{Time, Proper}
 use Rattle.fairway.specs.Behind.{behind}
 use Rattle.fairway.specs.declared.course.Course.{Course}
@@ -11,15 +11,11 @@ use Rattle.fairway.proofs.Laws.{irreflexive, transitive, differ}
 use Rattle.fairway.specs.Runs.{OrderIs}
 use Rattle.fairway.proofs.Totals.{over, tri, full, over_same, over_none, over_add, over_all}
 
-pub not_true : (b : Bool) → (b ≡ true → ⊥) → b ≡ false
-not_true true h = absurd (h refl)
-not_true false h = refl
-
 pub self : (t : Time) (u : Course) → behind t u u ≡ false
-self t u = not_true (behind t u u) (irreflexive t u)
+self t u = false_from_ne_true (behind t u u) (irreflexive t u)
 
 pub back : (t : Time) (u w : Course) → behind t u w ≡ true → behind t w u ≡ false
-back t u w h = not_true (behind t w u) (λ i. irreflexive t u (transitive t u w u h i))
+back t u w h = false_from_ne_true (behind t w u) (λ i. irreflexive t u (transitive t u w u h i))
 
 -- of two vessels with different numbers one is behind
 pub other : (t : Time) → Proper t → (u w : Course) → u.number ≢ w.number → behind t u w ≡ false → behind t w u ≡ true

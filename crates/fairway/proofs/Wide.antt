@@ -22,6 +22,3 @@ place_fits x y d n f g h k =
     let s = sized 9223372036854775808 65536 x d (omega (arith, ints)) (omega (arith, ints)) h in
     let t = sized 32768 2417851639229258349412352 y n (omega (arith, ints)) (omega (arith, ints)) (omega arith) in
     omega (arith, ints)
-
-pub parts_fit : (s d : ℕ) → s < 2 ^ 64 → d ≤ 65536 → s * d < 2 ^ 80
-parts_fit s d h k = let p : s * d ≤ 18446744073709551615 * 65536 = mul-le-mul {n₁ = s} {m₁ = d} {n₂ = 18446744073709551615} {m₂ = 65536} (omega arith) k in omega arith

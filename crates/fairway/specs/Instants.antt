@@ -1,5 +1,7 @@
 -- Instants of the clock: their values, which numbers make one, and that a value has one.
-use Rattle.std.specs.Prelude.{◌≡◌, ℕ, ◌-◌, Bool, ◌&&◌, ◌||◌, ltb, [], ◌∷◌, Some, None, Ok, Err, Option, Result, ◌==◌, nat_eq, nat_le, nat_lt}
+use Rattle.std.specs.Prelude.{◌≡◌, ℕ, ◌-◌, ◌*◌, Bool, ◌&&◌, ◌||◌, [], ◌∷◌, Some, None, Ok, Err, Option, Result, ◌==◌, nat_eq, nat_le, nat_lt}
+use Rattle.std.specs.Ordering.{ordering_then, nat_cmp}
+use Rattle.std.specs.declared.cmp.Ordering.{Ordering}
 use Rattle.event_queue.specs.Refusals.{◌when◌, topmost}
 use Rattle.fairway.specs.Times.{Time, whole_and, ◌=ᵗ◌}
 use Rattle.fairway.specs.Courses.{Decides}
@@ -25,9 +27,16 @@ abbrev pub instant_refusal : ℕ → ℕ → ℕ → Option Refusal
 instant_refusal s n d =
     topmost (
     NoSuchInstant when nat_eq d 0 ∷
-    NoSuchInstant when ltb 1000 d ∷
+    NoSuchInstant when nat_lt 1000 d ∷
     NoSuchInstant when nat_le d n ∷
     NoSuchInstant when past_last s n ∷ [])
+
+-- by whole seconds, then by each numerator times the other's denominator
+abbrev pub fraction_order : Instant → Instant → Ordering
+fraction_order a b = nat_cmp (a.numerator * b.denominator) (b.numerator * a.denominator)
+
+abbrev pub time_order : Instant → Instant → Ordering
+time_order a b = ordering_then (nat_cmp a.seconds b.seconds) (fraction_order a b)
 
 -- what the making answers: refused, or the instant of that value
 abbrev pub Made : ℕ → ℕ → ℕ → Result Instant Refusal → Type 0

@@ -4,6 +4,7 @@ pub mod Courses
 pub mod Stamps
 pub mod Refusals
 pub mod Instants
+pub mod InstantsLemmas
 pub mod Behind
 pub mod Pairs
 pub mod Meetings

@@ -2,7 +2,8 @@
 use Rattle.std.specs.Prelude.{◌≡◌, ℕ, zero, suc, ◌+◌, ◌*◌, ◌<◌, ◌≤◌, Bool, true, false, List, [], ◌∷◌, length, Some, None, Option}
 use Rattle.fairway.specs.Times.{Time, Proper, ◌≤ᵗ◌}
 use Rattle.fairway.specs.Courses.{Decides, Due}
-use Rattle.fairway.specs.Orders.{load, Same, Apart, Sorted, order, Pair, pair, turned, Exchange}
+use Rattle.fairway.specs.declared.pair.Pair.{Pair}
+use Rattle.fairway.specs.Orders.{load, Same, Apart, Sorted, order, pair, turned, Exchange}
 use Rattle.fairway.specs.Runs.{OneOrder, LoadFalls, Fewest, MendsTurned, LosesOne}
 use Rattle.fairway.specs.Standing.{Stands, Neighbours, NotLevelBefore}
 use Rattle.fairway.specs.declared.course.Course.{Course}

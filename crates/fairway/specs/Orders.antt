@@ -5,6 +5,7 @@ use Rattle.fairway.specs.Times.{Time, ◌≤ᵗ◌, ◌<ᵗ◌}
 use Rattle.fairway.specs.Courses.{faster, Due}
 use Rattle.fairway.specs.Behind.{behind}
 use Rattle.fairway.specs.declared.course.Course.{Course}
+use Rattle.fairway.specs.declared.pair.Pair.{Pair}
 
 -- c stands in the list
 abbrev pub Holds : List Course → Course → Type 0
@@ -35,10 +36,6 @@ order t [] = []
 order t (x ∷ xs) = put t x (order t xs)
 
 -- a rear and a front
-pub record Pair : Type 0 where
-  pub rear : Course
-  pub front : Course
-
 abbrev pub pair : Course → Course → Pair
 pair r f = record { rear = r; front = f }
 

@@ -3,7 +3,8 @@ use Rattle.std.specs.Prelude.{◌≡◌, ℕ, suc, ◌+◌, ◌≤◌, true, con
 use Rattle.std.specs.List.Sorted.{IsPermutation}
 use Rattle.fairway.specs.Times.{Time, Proper, ◌≤ᵗ◌}
 use Rattle.fairway.specs.Courses.{faster}
-use Rattle.fairway.specs.Orders.{Holds, Same, Apart, Sorted, order, load, fast, Exchange, turned, turns, Pair, pair, is_pair, Run, Mends}
+use Rattle.fairway.specs.declared.pair.Pair.{Pair}
+use Rattle.fairway.specs.Orders.{Holds, Same, Apart, Sorted, order, load, fast, Exchange, turned, turns, pair, is_pair, Run, Mends}
 use Rattle.fairway.specs.declared.course.Course.{Course}
 
 -- the order at t is from rear to front, has the vessels of the roster, and is the only such list

@@ -1,6 +1,7 @@
 -- The comparison of stamps: a total order, which agrees with the order of time.
-use Rattle.std.specs.Prelude.{◌≡◌, ℕ, ◌+◌, ◌*◌, ◌<◌, ◌≤◌, Bool, true, false, ◌&&◌, ◌||◌, ◌⊎◌, ◌==◌, ◌≢◌, nat_lt}
-use Rattle.std.proofs.Common.{sym, subst, inl, inr, ⊎_elim, add-mul, mul_right_comm, mul-le-mul_right, le_of_mul-le-mul_right, mul-lt-mul_of_pos_right, arith}
+use Rattle.std.specs.Prelude.{◌≡◌, ℕ, ◌+◌, ◌*◌, ◌<◌, ◌≤◌, Bool, true, false, ◌&&◌, ◌||◌, ◌⊎◌, ◌≢◌, ◌==◌, nat_lt}
+use Rattle.std.specs.Ordering.{is_lt, ordering_then, nat_cmp}
+use Rattle.std.proofs.Common.{sym, ◌∙◌, subst, inl, inr, ⊎_elim, add-mul, mul_right_comm, mul-le-mul_right, le_of_mul-le-mul_right, mul-lt-mul_of_pos_right, arith}
 use Rattle.std.proofs.lemmas.Bool.Decides.{nat_tests}
 use Rattle.std.proofs.lemmas.Bool.{cases_order}
 use Rattle.fairway.specs.Times.{Proper, ◌≤ᵗ◌, ◌<ᵗ◌}
@@ -34,7 +35,15 @@ early_from : (x y : Stamp) → earlier x y ≡ true → (x.seconds < y.seconds) 
 unfolding earlier
 early_from x y e = tests_yes x.seconds y.seconds (x.numerator * den y) (y.numerator * den x) e
 
--- what the code answers
+-- the pairs of seconds and product compared, as the code does
+by_pairs : (x y : Stamp) → is_lt (ordering_then (nat_cmp x.seconds y.seconds) (nat_cmp (x.numerator * den y) (y.numerator * den x))) ≡ earlier x y
+unfolding earlier
+by_pairs x y = go x.seconds y.seconds (x.numerator * den y) (y.numerator * den x)
+  where
+    go : (a b c d : ℕ) → is_lt (ordering_then (nat_cmp a b) (nat_cmp c d)) ≡ (nat_lt a b || (a == b && nat_lt c d))
+    go a b c d = grind (arith, nat_tests)
+
+-- by whole seconds where they differ, and else by the products
 pub by_seconds : (x y : Stamp) → (x.seconds ≢ y.seconds) → nat_lt x.seconds y.seconds ≡ earlier x y
 unfolding earlier
 by_seconds x y n = go x.seconds y.seconds (nat_lt (x.numerator * den y) (y.numerator * den x)) n
@@ -57,7 +66,7 @@ cross : (an ad bn bd cn cd : ℕ) → 0 < bd → an * bd ≤ bn * ad → bn * cd
 cross an ad bn bd cn cd p h k =
     let one : an * bd * cd ≤ bn * ad * cd = mul-le-mul_right cd h in
     let two : bn * cd * ad ≤ cn * bd * ad = mul-le-mul_right ad k in
-    let all : (an * cd) * bd ≤ (cn * ad) * bd = omega (arith, mul_right_comm an cd bd, mul_right_comm cn ad bd, mul_right_comm bn ad cd) in
+    let all : (an * cd) * bd ≤ (cn * ad) * bd = grind arith in
     le_of_mul-le-mul_right all p
 
 pub carries : (a b c : Stamp) → earlier b a ≡ false → earlier c b ≡ false → earlier c a ≡ false
@@ -70,15 +79,13 @@ carries a b c e f =
     cross a.numerator (den a) b.numerator (den b) c.numerator (den c) (omega arith) (h.1 p) (k.1 q))
 
 -- ---- seconds first and then the fraction, as one fraction
-crossed : (ts tn td us un ud : ℕ) → tn < td → ts ≤ us → (us ≡ ts → tn * ud ≤ un * td) → (ts * td + tn) * ud ≤ (us * ud + un) * td
+pub crossed : (ts tn td us un ud : ℕ) → tn < td → ts ≤ us → (us ≡ ts → tn * ud ≤ un * td) → (ts * td + tn) * ud ≤ (us * ud + un) * td
 crossed ts tn td us un ud p h k =
-    ⊎_elim
-    (λ e. let a = k (sym e) in
-    rw (add-mul (ts * td) tn ud, add-mul (us * ud) un td, mul_right_comm us ud td, ← e) (omega arith))
+    ⊎_elim (λ e. let a = k (sym e) in rw e (grind arith))
     (⊎_elim
-    (λ (l : ts < us). let a : (ts * td + tn) ≤ us * td = omega (arith, mul-le-mul_right {m = ts + 1} {n = us} td (omega arith), add-mul ts 1 td) in
-    let b : (ts * td + tn) * ud ≤ us * td * ud = mul-le-mul_right ud a in
-    rw (add-mul (us * ud) un td, mul_right_comm us ud td) (omega arith))
+    (λ (l : ts < us). let a : (ts + 1) * td * ud ≤ us * td * ud = mul-le-mul_right ud (mul-le-mul_right td (omega arith)) in
+    let b : tn * ud ≤ td * ud = mul-le-mul_right ud (omega arith) in
+    grind arith)
     (λ (l : us < ts). absurd (omega arith)))
     (cases_order ts us)
 
@@ -87,7 +94,7 @@ not_later t u p e =
     let k = late_from u t e in
     crossed t.seconds t.numerator (den t) u.seconds u.numerator (den u) p k.0 k.1
 
-crossed_lt : (ts tn td us un ud : ℕ) → tn < td → 0 < ud → (ts < us) ⊎ ((ts ≡ us) × (tn * ud < un * td)) → (ts * td + tn) * ud < (us * ud + un) * td
+pub crossed_lt : (ts tn td us un ud : ℕ) → tn < td → 0 < ud → (ts < us) ⊎ ((ts ≡ us) × (tn * ud < un * td)) → (ts * td + tn) * ud < (us * ud + un) * td
 crossed_lt ts tn td us un ud p pu (inl l) =
     let a : (ts * td + tn) < us * td = omega (arith, mul-le-mul_right {m = ts + 1} {n = us} td (omega arith), add-mul ts 1 td) in
     let b : (ts * td + tn) * ud < us * td * ud = mul-lt-mul_of_pos_right a pu in
@@ -103,3 +110,6 @@ agrees a b pa pb = ((λ e. sooner a b pa e), (λ e h. let k = not_later b a pb e
 
 pub compared : (a b : Stamp) (r : Bool) → r ≡ earlier a b → Compared a b r
 compared a b r e = record { value = e; in_time = λ pa pb. subst (Decides (time_of a <ᵗ time_of b)) (sym e) (agrees a b pa pb) }
+
+pub compared_pairs : (a b : Stamp) (r : Bool) → r ≡ is_lt (ordering_then (nat_cmp a.seconds b.seconds) (nat_cmp (a.numerator * den b) (b.numerator * den a))) → Compared a b r
+compared_pairs a b r e = compared a b r (e ∙ by_pairs a b)

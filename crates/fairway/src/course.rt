@@ -7,6 +7,12 @@ ghost use Rattle.fairway.specs.Instants.{value};
 use crate::instant::Instant;
 use crate::stamp::Stamp;
 
+// The greatest speed of a course in range, either way, in centimetres a second.
+const MOST_SPEED: i16 = 1000;
+
+// The greatest base of a course in range, either way, in centimetres.
+const MOST_BASE: i64 = 33_654_432_000;
+
 // A vessel's course on the waterway: its number, its speed in centimetres a second, and its base, the
 // position in centimetres reckoned back to second 0.
 #[derive(Clone, Copy, PartialEq, Eq, Debug)]
@@ -30,10 +36,8 @@ impl Course {
         ensures { Decides (InRange self) result }
     {
         self.number > 0
-            && self.speed >= -1000
-            && self.speed <= 1000
-            && self.base >= -33_654_432_000
-            && self.base <= 33_654_432_000
+            && (-MOST_SPEED..=MOST_SPEED).contains(&self.speed)
+            && (-MOST_BASE..=MOST_BASE).contains(&self.base)
     }
 
     // The position at a stamp, in parts of a centimetre, as many to one as the stamp's denominator. It is
@@ -72,20 +76,7 @@ impl Course {
     pub fn is_behind(self, other: Course, at: Stamp) -> bool
         ensures { result ≡ behind (time_of at) self other }
     {
-        let own = self.position_at(at);
-        let others = other.position_at(at);
-        if own < others {
-            return true;
-        }
-        if others < own {
-            return false;
-        }
-        if self.speed < other.speed {
-            return true;
-        }
-        if other.speed < self.speed {
-            return false;
-        }
-        self.number < other.number
+        (self.position_at(at), self.speed, self.number)
+            < (other.position_at(at), other.speed, other.number)
     }
 }

@@ -5,6 +5,7 @@ use crate::course::Course;
 
 // Three vessels of the worked examples, from rear to front at second 0: by second 6 they have all passed
 // one another.
+#[tactic(auto, using(crate::proofs::Examples::examples))]
 pub fn three_vessels() -> [Course; 3]
     ensures value { result ≡ one_two_five }
     ensures examples { Examples }

@@ -2,6 +2,7 @@ ghost use Rattle.std.specs.Prelude.{◌≡◌, ◌<◌, ◌≤◌};
 ghost use Rattle.fairway.specs.Fractions.{Coprime};
 
 mod clock;
+mod comparisons;
 mod numbers;
 
 // An instant of the clock: whole seconds and a fraction of a second in lowest terms, 0/1 where it is whole.

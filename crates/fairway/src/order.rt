@@ -4,21 +4,19 @@ ghost use Rattle.fairway.specs.Orders.{slower_than, turned_by};
 ghost use Rattle.fairway.specs.Lists.{LoadCount, SortedAnswer, TurnedCount, FirstDue, StandsUntil, Mended};
 
 use crate::course::Course;
-use crate::pair::{is_due, is_past, is_turned};
+use crate::pair::Pair;
 use crate::stamp::Stamp;
 
-// How many of the courses are slower than the rear.
+// How many of the courses are slower than the rear. That counts are at most as many as the courses is a clause of
+// each, since no type says it of a number and a list.
 pub fn count_slower(courses: &[Course], rear: Course) -> usize
     ensures count { result ≡ slower_than rear courses.now }
     ensures few { result ≤ length courses.now }
 {
-    let mut count = 0;
-    for front in courses {
-        if rear.is_faster(*front) {
-            count += 1;
-        }
-    }
-    count
+    courses
+        .iter()
+        .filter(|front| rear.is_faster(**front))
+        .count()
 }
 
 // The load of a list from rear to front: how many pairs, the one that comes first as rear, have a faster rear.
@@ -26,8 +24,10 @@ pub fn load(courses: &[Course]) -> u128
     ensures { LoadCount courses.now result }
 {
     let mut total: u128 = 0;
-    for place in 0..courses.len() {
-        total += count_slower(&courses[place + 1..], courses[place]) as u128;
+    let mut rest = courses;
+    while let [rear, fronts @ ..] = rest {
+        total += count_slower(fronts, *rear) as u128;
+        rest = fronts;
     }
     total
 }
@@ -37,75 +37,59 @@ fn count_turned(courses: &[Course], rear: Course, from: Stamp, to: Stamp) -> usi
     ensures count { result ≡ turned_by (time_of from) (time_of to) rear courses.now }
     ensures few { result ≤ length courses.now }
 {
-    let mut count = 0;
-    for front in courses {
-        if is_turned(rear, *front, from, to) {
-            count += 1;
-        }
-    }
-    count
+    courses
+        .iter()
+        .filter(|front| Pair::new(rear, **front).is_turned(from, to))
+        .count()
 }
 
 // How many pairs of a roster an advance turns: the one that is behind at its beginning is in front at its end.
+// Beginning and end are two parameters here and of a pair: a struct of the two would be made by each caller for
+// this one question.
 pub fn turned_pairs(courses: &[Course], from: Stamp, to: Stamp) -> u128
     ensures { TurnedCount (time_of from) (time_of to) courses.now result }
 {
-    let mut total: u128 = 0;
-    for place in 0..courses.len() {
-        total += count_turned(courses, courses[place], from, to) as u128;
-    }
-    total
+    courses
+        .iter()
+        .map(|rear| count_turned(courses, *rear, from, to) as u128)
+        .sum()
 }
 
 // Whether a list is in order from rear to front.
 pub fn is_sorted(courses: &[Course], at: Stamp) -> bool
     ensures { SortedAnswer (time_of at) courses.now result }
 {
-    for place in 1..courses.len() {
-        if !courses[place - 1].is_behind(courses[place], at) {
-            return false;
-        }
-    }
-    true
+    courses.is_sorted_by(|rear, front| rear.is_behind(*front, at))
 }
 
 // The place of the first course that is due to pass the next one, or none.
 pub fn first_due(courses: &[Course], at: Stamp) -> Option<usize>
     ensures { FirstDue (time_of at) courses.now result }
 {
-    for place in 1..courses.len() {
-        if is_due(courses[place - 1], courses[place], at) {
-            return Some(place - 1);
-        }
-    }
-    None
+    courses
+        .windows(2)
+        .position(|two| Pair::new(two[0], two[1]).is_due(at))
 }
 
 // Whether no neighbours draw level before a stamp.
 pub fn stands_until(courses: &[Course], at: Stamp) -> bool
     ensures { StandsUntil (time_of at) courses.now result }
 {
-    for place in 1..courses.len() {
-        if is_past(courses[place - 1], courses[place], at) {
-            return false;
-        }
-    }
-    true
+    !courses
+        .windows(2)
+        .any(|two| Pair::new(two[0], two[1]).is_past(at))
 }
 
 // Exchanges the course at a place and the next one if they are due, and answers whether they were.
 pub fn mend(courses: &mut [Course], place: usize, at: Stamp) -> bool
     ensures { Mended (time_of at) courses.old courses.new place result }
 {
-    if courses.len().saturating_sub(place) < 2 {
+    let [rear, front, ..] = courses.get(place..).unwrap_or(&[]) else {
+        return false;
+    };
+    if !Pair::new(*rear, *front).is_due(at) {
         return false;
     }
-    let rear = courses[place];
-    let front = courses[place + 1];
-    if !is_due(rear, front, at) {
-        return false;
-    }
-    courses[place] = front;
-    courses[place + 1] = rear;
+    courses.swap(place, place + 1);
     true
 }

@@ -8,12 +8,12 @@ pub enum Refusal {
     NoSuchInstant,
 }
 
-impl Refusal {
-    // The refusal's number in the table of refusals.
-    pub fn number(&self) -> u8
-        ensures { result ≡ refusal_number self.now }
-    {
-        match self {
+// The refusal's number in the table of refusals.
+impl From<Refusal> for u8 {
+    ghost from_gives = { λ refusal number. number ≡ refusal_number refusal };
+
+    fn from(refusal: Refusal) -> u8 {
+        match refusal {
             Refusal::NoSuchInstant => 7,
         }
     }

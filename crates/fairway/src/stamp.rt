@@ -14,15 +14,14 @@ pub struct Stamp {
 
 impl Stamp {
     // Whether this stamp is earlier: by whole seconds, then by each numerator times the other's denominator.
+    // It is no `PartialOrd`: 1/2 and 2/4 are different stamps, and neither is earlier, so no order that
+    // agrees with `==` answers this.
     pub fn is_earlier(&self, other: &Stamp) -> bool
         ensures { Compared self.now other.now result }
     {
-        if self.seconds != other.seconds {
-            return self.seconds < other.seconds;
-        }
-        let own = self.numerator as u64 * (other.denominator_less_one as u64 + 1);
-        let others = other.numerator as u64 * (self.denominator_less_one as u64 + 1);
-        own < others
+        let own = u32::from(self.numerator) * (u32::from(other.denominator_less_one) + 1);
+        let others = u32::from(other.numerator) * (u32::from(self.denominator_less_one) + 1);
+        (self.seconds, own) < (other.seconds, others)
     }
 }
 

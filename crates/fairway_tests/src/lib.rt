@@ -10,9 +10,11 @@ mod tests {
     use fairway::example::three_vessels;
     use fairway::instant::Instant;
     use fairway::order::{first_due, is_sorted, load, mend, stands_until, turned_pairs};
-    use fairway::pair::{is_due, is_in_order, level_instant};
+    use fairway::pair::Pair;
     use fairway::stamp::Stamp;
+    use std::test::Fail;
 
+    // A course by number, base and speed, as the tables of these examples have them.
     fn vessel(number: u16, base: i64, speed: i16) -> Course {
         Course {
             number,
@@ -29,12 +31,14 @@ mod tests {
         }
     }
 
-    // An instant's three numbers, or the number of the refusal.
+    // An instant's three numbers, or the number of the refusal: the number is what the examples compare.
     fn made(seconds: u64, numerator: u16, denominator: u16) -> Result<(u64, u16, u16), u8> {
-        match Instant::new(seconds, numerator, denominator) {
-            Ok(i) => Ok((i.seconds(), i.numerator(), i.denominator())),
-            Err(e) => Err(e.number()),
-        }
+        let instant = Instant::new(seconds, numerator, denominator)?;
+        Ok((
+            instant.seconds(),
+            instant.numerator(),
+            instant.denominator(),
+        ))
     }
 
     #[test]
@@ -53,38 +57,45 @@ mod tests {
     #[test]
     fn meetings(rt: HostRuntime) {
         assert_eq!(rt;
-            level_instant(vessel(7, 0, 3), vessel(3, 10, 1)),
+            Pair::new(vessel(7, 0, 3), vessel(3, 10, 1)).level_instant(),
             Some(stamp(5, 0, 0))
         );
         assert_eq!(rt;
-            level_instant(vessel(1, 0, 5), vessel(2, 7, 3)),
+            Pair::new(vessel(1, 0, 5), vessel(2, 7, 3)).level_instant(),
             Some(stamp(3, 1, 1))
         );
-        assert_eq!(rt; level_instant(vessel(1, 0, 3), vessel(2, 7, 5)), None);
-        assert_eq!(rt; level_instant(vessel(1, 8, 5), vessel(2, 7, 3)), None);
-        assert_eq!(rt; level_instant(vessel(9, 100, 2), vessel(4, 100, 2)), None);
         assert_eq!(rt;
-            is_due(vessel(9, 100, 2), vessel(4, 100, 2), stamp(8, 0, 0)),
+            Pair::new(vessel(1, 0, 3), vessel(2, 7, 5)).level_instant(),
+            None
+        );
+        assert_eq!(rt;
+            Pair::new(vessel(1, 8, 5), vessel(2, 7, 3)).level_instant(),
+            None
+        );
+        assert_eq!(rt;
+            Pair::new(vessel(9, 100, 2), vessel(4, 100, 2)).level_instant(),
+            None
+        );
+        assert_eq!(rt;
+            Pair::new(vessel(9, 100, 2), vessel(4, 100, 2)).is_due(stamp(8, 0, 0)),
             false
         );
         assert_eq!(rt;
-            is_in_order(vessel(4, 100, 2), vessel(9, 100, 2), stamp(8, 0, 0)),
+            Pair::new(vessel(4, 100, 2), vessel(9, 100, 2)).is_in_order(stamp(8, 0, 0)),
             true
         );
     }
 
     #[test]
-    fn positions(rt: HostRuntime) {
-        let at = match Instant::new(2, 1, 2) {
-            Ok(i) => i,
-            Err(_) => Instant::start(),
-        };
+    fn positions(rt: HostRuntime) -> Result<(), Fail> {
+        let at = Instant::new(2, 1, 2)?;
         assert_eq!(rt; vessel(1, -10, 1).position(at), -15);
         assert_eq!(rt; vessel(1, -10, 1).position(Instant::start()), -10);
         assert_eq!(rt; vessel(1, 33_654_432_000, -1000).is_in_range(), true);
         assert_eq!(rt; vessel(1, 33_654_432_001, 0).is_in_range(), false);
         assert_eq!(rt; vessel(1, 0, 1001).is_in_range(), false);
         assert_eq!(rt; vessel(0, 0, 0).is_in_range(), false);
+        Ok(())
     }
 
     #[test]

@@ -1,15 +1,12 @@
 -- Mending until none is due, on any structure.
-use Rattle.std.proofs.Common.{◌≡◌, ℕ, ◌+◌, ◌<◌, ◌≤◌, true, false, not, List, [], Some, None, Ok, Err, Option, Result, sym, refl, ap, ◌∙◌, subst, arith}
-use Rattle.event_queue.proofs.Laws.{topmost_false}
+use Rattle.std.proofs.Common.{◌≡◌, ℕ, ◌+◌, ◌<◌, ◌≤◌, true, false, List, Some, None, Ok, Err, Option, Result, MatchOption, sym, ◌∙◌, subst, arith}
 use Rattle.fairway.specs.Times.{Time}
 use Rattle.fairway.specs.declared.course.Course.{Course}
 use Rattle.kinetic.specs.Limits.{due}
-use Rattle.kinetic.specs.Numbers.{listed}
-use Rattle.kinetic.specs.Structures.{Meaning, NoneDue, Front, InFront, Certified, Mended, Mend, mend_refusal}
-use Rattle.kinetic.specs.Settling.{Settled}
+use Rattle.kinetic.specs.Structures.{Meaning, NoneDue, Front, InFront, Certified, Mended, Mend}
+use Rattle.kinetic.specs.Settling.{FirstDue, Settled}
 use Rattle.kinetic.specs.declared.numbers.Numbers.{Numbers}
 use Rattle.kinetic.specs.declared.refusal.Refusal.{Refusal}
-use Rattle.kinetic.specs.declared.refusal.Refusal.TheVariants.{NotDue}
 use Rattle.kinetic.proofs.Tests.{not_due}
 
 pub same_front : (t : Time) (a b : ℕ → Option Course) (v : Option ℕ) → ((n : ℕ) → a n ≡ b n) → Front t a v → Front t b v
@@ -21,22 +18,22 @@ module _ {S : Type 0} (m : Meaning S) where
   pub none_due : Certified m → (t : Time) (s : S) → ((k : ℕ) → k < 64 → due t (m.certificate s k) ≡ false) → NoneDue m t s
   none_due law t s h i r f e = not_due t (m.certificate s i) (h i (law s i r f e).0) r f e
 
+  -- the first of 64 numbers whose certificate is due
+  pub first_of : Certified m → (t : Time) (s : S) (r : Option ℕ) →
+      MatchOption r ((k : ℕ) → 0 ≤ k → k < 64 → due t (m.certificate s k) ≡ false)
+      (λ i. (0 ≤ i) × (i < 64) × (due t (m.certificate s i) ≡ true) × ((k : ℕ) → 0 ≤ k → k < i → due t (m.certificate s k) ≡ false)) → FirstDue m t s r
+  first_of law t s None h = none_due law t s (λ k l. h k (omega arith) l)
+  first_of law t s (Some i) h = (h.2, (λ k l. h.3 k (omega arith) l))
+
   -- a mend of a due certificate is accepted
   pub mended : (t : Time) (s s' : S) (i : ℕ) (r : Result Numbers Refusal) → due t (m.certificate s i) ≡ true → Mended m t s s' i r → (numbers : List ℕ) × Mend m t s s' i numbers
-  mended t s s' i (Ok named) d k = (listed named, k.1)
-  mended t s s' i (Err e) d k =
-      let a : mend_refusal m t s i ≡ None = topmost_false NotDue (not (due t (m.certificate s i))) [] (ap not d) in
-      let b : mend_refusal m t s i ≡ Some e = k.0 in
-      let z : ◌≡◌ {A = ℕ} 0 1 = cc in
-      absurd (omega arith)
+  mended t s s' i (Ok named) d k = (named, k.1)
+  mended t s s' i (Err e) d k = absurd (grind arith)
 
   -- on the way: the roster is as it was, and a structure that stood stands, with as many mends as the load has lost
   pub record Midway (t : Time) (s s' : S) (mends : ℕ) : Type 0 where
     pub roster : (n : ℕ) → m.roster s' n ≡ m.roster s n
     pub stands : m.standing t s → m.standing t s' × (m.load s' + mends ≤ m.load s)
-
-  pub midway_none : (t : Time) (s : S) → Midway t s s 0
-  midway_none t s = record { roster = λ n. refl; stands = λ st. (st, omega arith) }
 
   pub midway_more : (t : Time) (s a b : S) (k i : ℕ) (r : Result Numbers Refusal) → Midway t s a k → due t (m.certificate a i) ≡ true → Mended m t a b i r → Midway t s b (k + 1)
   midway_more t s a b k i r w d e =

@@ -3,6 +3,7 @@ use Rattle.std.specs.Prelude.{Bool, false, ◌&&◌, ◌||◌, pos, negsuc, Some
 use Rattle.fairway.specs.Times.{Time}
 use Rattle.fairway.specs.Courses.{place, faster}
 use Rattle.fairway.specs.declared.course.Course.{Course}
+use Rattle.fairway.specs.declared.pair.Pair.{Pair}
 
 -- the speed is above 1,000 or the base above 33,654,432,000 in size
 unfoldable pub out_of_range : Course → Bool
@@ -14,6 +15,6 @@ unfoldable pub pair_due : Time → Course → Course → Bool
 pair_due t r f = faster r f && (int_le (place t r) (place t f) && int_le (place t f) (place t r))
 
 -- the certificate is there, and is due
-abbrev pub due : Time → Option (Course × Course) → Bool
-due t (Some p) = pair_due t p.0 p.1
+abbrev pub due : Time → Option Pair → Bool
+due t (Some p) = pair_due t p.rear p.front
 due t None = false

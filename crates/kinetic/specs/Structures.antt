@@ -8,10 +8,12 @@ use Rattle.fairway.specs.Behind.{behind}
 use Rattle.fairway.specs.Standing.{InOrderOrDue, NotLevelBefore}
 use Rattle.fairway.specs.declared.course.Course.{Course}
 use Rattle.kinetic.specs.Limits.{out_of_range, due}
-use Rattle.kinetic.specs.Numbers.{listed, among}
+use Rattle.kinetic.specs.Numbers.{among}
 use Rattle.kinetic.specs.declared.numbers.Numbers.{Numbers}
 use Rattle.kinetic.specs.declared.refusal.Refusal.{Refusal}
 use Rattle.kinetic.specs.declared.refusal.Refusal.TheVariants.{NumberZero, OutOfRange, AlreadyAboard, Full, UnknownVessel, NotDue}
+use Rattle.fairway.specs.Orders.{pair}
+use Rattle.fairway.specs.declared.pair.Pair.{Pair}
 
 -- The meaning of a structure of the type S.
 pub record Meaning (S : Type 0) : Type 1 where
@@ -26,7 +28,7 @@ pub record Meaning (S : Type 0) : Type 1 where
   -- a measure that each mend lowers
   pub load : S → ℕ
   -- the pair of each certificate number, rear first, or none
-  pub certificate : S → ℕ → Option (Course × Course)
+  pub certificate : S → ℕ → Option Pair
   -- what a mend of the pair rear, front makes of a structure, beyond what every mend does
   pub mended : Course → Course → S → S → Type 0
 
@@ -48,7 +50,7 @@ pub record Aboard (n : ℕ) (c : Course) : Type 0 where
 module _ {S : Type 0} (m : Meaning S) where
   -- P of each certificate
   abbrev pub EachCertificate : (Course → Course → Type 0) → S → Type 0
-  EachCertificate P s = (i : ℕ) (rear front : Course) → m.certificate s i ≡ Some (rear, front) → P rear front
+  EachCertificate P s = (i : ℕ) (rear front : Course) → m.certificate s i ≡ Some (pair rear front) → P rear front
 
   -- no certificate is due
   abbrev pub NoneDue : Time → S → Type 0
@@ -74,7 +76,7 @@ module _ {S : Type 0} (m : Meaning S) where
 
   -- certificates have numbers below 64, and are of two vessels aboard
   abbrev pub Certified : Type 0
-  Certified = (s : S) (i : ℕ) (rear front : Course) → m.certificate s i ≡ Some (rear, front) → (i < 64) × (m.roster s rear.number ≡ Some rear) × (m.roster s front.number ≡ Some front)
+  Certified = (s : S) (i : ℕ) (rear front : Course) → m.certificate s i ≡ Some (pair rear front) → (i < 64) × (m.roster s rear.number ≡ Some rear) × (m.roster s front.number ≡ Some front)
 
   -- a vessel aboard has the number that it is asked by, and a course in range
   abbrev pub Listed : Type 0
@@ -133,7 +135,7 @@ module _ {S : Type 0} (m : Meaning S) where
     pub roster : (n : ℕ) → m.roster s' n ≡ m.roster s n
     pub named : Named s s' numbers
     pub stands : m.standing t s → m.standing t s' × (m.load s' < m.load s)
-    pub by : (rear front : Course) → m.certificate s i ≡ Some (rear, front) → m.mended rear front s s'
+    pub by : (rear front : Course) → m.certificate s i ≡ Some (pair rear front) → m.mended rear front s s'
 
   -- nothing is left
   pub record Cleared (s' : S) : Type 0 where
@@ -144,17 +146,17 @@ module _ {S : Type 0} (m : Meaning S) where
 
   -- the four changes: what was done, or why it was refused and that nothing changed
   abbrev pub Entered : Time → S → S → Course → Result Numbers Refusal → Type 0
-  Entered t s s' c (Ok named) = (enter_refusal s c ≡ None) × Changed t s s' c.number (Some c) (listed named)
+  Entered t s s' c (Ok named) = (enter_refusal s c ≡ None) × Changed t s s' c.number (Some c) named
   Entered t s s' c (Err e) = (enter_refusal s c ≡ Some e) × (s' ≡ s)
 
   abbrev pub Left : Time → S → S → ℕ → Result Numbers Refusal → Type 0
-  Left t s s' n (Ok named) = (vessel_refusal s n ≡ None) × Changed t s s' n None (listed named)
+  Left t s s' n (Ok named) = (vessel_refusal s n ≡ None) × Changed t s s' n None named
   Left t s s' n (Err e) = (vessel_refusal s n ≡ Some e) × (s' ≡ s)
 
   abbrev pub Steered : Time → S → S → Course → Result Numbers Refusal → Type 0
-  Steered t s s' c (Ok named) = (steer_refusal s c ≡ None) × Changed t s s' c.number (Some c) (listed named)
+  Steered t s s' c (Ok named) = (steer_refusal s c ≡ None) × Changed t s s' c.number (Some c) named
   Steered t s s' c (Err e) = (steer_refusal s c ≡ Some e) × (s' ≡ s)
 
   abbrev pub Mended : Time → S → S → ℕ → Result Numbers Refusal → Type 0
-  Mended t s s' i (Ok named) = (mend_refusal t s i ≡ None) × Mend t s s' i (listed named)
+  Mended t s s' i (Ok named) = (mend_refusal t s i ≡ None) × Mend t s s' i named
   Mended t s s' i (Err e) = (mend_refusal t s i ≡ Some e) × (s' ≡ s)

@@ -1,6 +1,5 @@
 #![tactic(auto)]
 
-pub mod changed;
 pub mod limits;
 pub mod numbers;
 pub mod refusal;

@@ -1,9 +1,64 @@
-ghost use Rattle.std.specs.Prelude.{ℕ, ◌≤◌};
+ghost use Rattle.std.specs.Prelude.{◌≡◌, [], ◌≤◌, length};
+ghost use Rattle.kinetic.specs.Numbers.{Pushed};
+
+use std::marker::Model;
 
 // At most 64 certificate numbers, one after the other: whoever reads them pays for as many as there are.
+// They stand in a buffer with their count beside it, since a change of a structure asks for no memory, and
+// its answer is copied like a number.
 #[derive(Clone, Copy)]
 pub struct Numbers {
-    pub(crate) count: usize,
-    pub(crate) numbers: [usize; 64],
-    ghost few: { count ≤ 64 },
+    count: usize,
+    numbers: [usize; 64],
+}
+
+// A clause sees the numbers, in the order in which they were added. Behind them the buffer is zero, so that
+// they give the fields back.
+impl Model for Numbers {
+    ghost use Rattle.std.specs.Prelude.{ℕ, List, take, length};
+    ghost use Rattle.kinetic.specs.Numbers.{Padded, padded, padded_back};
+
+    ghost Value = { List ℕ };
+
+    ghost view = { λ n. take n.count n.numbers };
+
+    ghost invariant = { λ n. Padded n.count n.numbers };
+
+    ghost inverse = { λ ns. record { count = length ns; numbers = padded ns } };
+
+    ghost inverse_ok = { λ n h i. record {
+      count = (padded_back n.count n.numbers h).0 i;
+      numbers = (padded_back n.count n.numbers h).1 i;
+    } };
+}
+
+impl Numbers {
+    // No number.
+    pub fn new() -> Numbers
+        ensures { result ≡ [] }
+    {
+        Numbers {
+            count: 0,
+            numbers: [0; 64],
+        }
+    }
+
+    // Adds a number behind the others; where 64 are there already, nothing changes.
+    pub fn push(&mut self, number: usize)
+        ensures { Pushed self.old self.new number }
+    {
+        if self.count >= 64 {
+            return;
+        }
+        self.numbers[self.count] = number;
+        self.count += 1;
+    }
+
+    // The numbers, in the order in which they were added.
+    pub fn as_slice(&self) -> &[usize]
+        ensures value { result.now ≡ self.now }
+        ensures few { length result.now ≤ 64 }
+    {
+        &self.numbers[..self.count]
+    }
 }

@@ -18,12 +18,12 @@ pub enum Refusal {
     NotDue,
 }
 
-impl Refusal {
-    // The refusal's number in the table of refusals.
-    pub fn number(&self) -> u8
-        ensures { result ≡ refusal_number self.now }
-    {
-        match self {
+// The refusal's number in the table of refusals.
+impl From<Refusal> for u8 {
+    ghost from_gives = { λ e r. r ≡ refusal_number e };
+
+    fn from(refusal: Refusal) -> u8 {
+        match refusal {
             Refusal::NumberZero => 1,
             Refusal::OutOfRange => 2,
             Refusal::AlreadyAboard => 4,

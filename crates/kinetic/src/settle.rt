@@ -10,26 +10,18 @@ use fairway::stamp::Stamp;
 pub fn first_due<S: Structure>(structure: &S, at: Stamp) -> Option<usize>
     ensures { FirstDue S.Structure.means (time_of at) structure.now result }
 {
-    for number in 0..64 {
-        if is_certificate_due(structure.certificate(number), at) {
-            return Some(number);
-        }
-    }
-    None
+    (0..64).find(|number| is_certificate_due(structure.certificate(*number), at))
 }
 
 // Mends until none is due, which takes at most as many mends as the load says, and answers the foremost.
 pub fn settle<S: Structure>(structure: &mut S, at: Stamp) -> Option<u16>
     ensures { Settled S.Structure.means (time_of at) structure.old structure.new result }
 {
-    let most = structure.load();
-    let mut mends = 0;
-    while mends <= most {
+    for _ in 0..=structure.load() {
         let Some(number) = first_due(structure, at) else {
-            return structure.foremost();
+            break;
         };
         let _ = structure.mend(number, at);
-        mends += 1;
     }
     structure.foremost()
 }

@@ -5,6 +5,7 @@ ghost use Rattle.kinetic.specs.Structures.{Meaning, InOrder, InFront, Lasting, C
 use crate::numbers::Numbers;
 use crate::refusal::Refusal;
 use fairway::course::Course;
+use fairway::pair::Pair;
 use fairway::stamp::Stamp;
 
 // A kinetic structure: the courses of at most 64 vessels, and under some numbers below 64 certificates,
@@ -36,8 +37,8 @@ pub trait Structure {
     fn mend(&mut self, certificate: usize, at: Stamp) -> Result<Numbers, Refusal>
         ensures { Mended means (time_of at) self.old self.new certificate result };
 
-    // The certificate of a number, rear first, or none.
-    fn certificate(&self, number: usize) -> Option<(Course, Course)>
+    // The certificate of a number, or none.
+    fn certificate(&self, number: usize) -> Option<Pair>
         ensures { result ≡ means.certificate self.now number };
 
     // The course of a vessel, or none.

@@ -4,6 +4,7 @@
 mod tests {
     use fairway::course::Course;
     use fairway::example::three_vessels;
+    use fairway::pair::Pair;
     use fairway::stamp::Stamp;
     use kinetic::numbers::Numbers;
     use kinetic::refusal::Refusal;
@@ -12,7 +13,7 @@ mod tests {
     use sorted_list::list::SortedList;
     use std::test::Fail;
 
-    // A course by number, speed and base.
+    // A course by number, speed and base, as the tables of these examples have them.
     fn vessel(number: u16, speed: i16, base: i64) -> Course {
         Course {
             number,
@@ -30,12 +31,9 @@ mod tests {
         }
     }
 
-    // The number of the refusal, or 0 where the call was accepted.
+    // The number of the refusal, or 0 where the call was accepted: the number is what the examples compare.
     fn refusal_of(answer: Result<Numbers, Refusal>) -> u8 {
-        match answer {
-            Ok(_) => 0,
-            Err(refusal) => refusal.number(),
-        }
+        answer.map_or_else(u8::from, |_| 0)
     }
 
     // Three that are all level at second 6 pass one another: the generic loop mends three times.
@@ -70,14 +68,14 @@ mod tests {
         list.enter(vessel(4, 1, 30), second(0))?;
         assert_eq!(rt;
             list.certificate(1),
-            Some((vessel(2, 3, 5), vessel(3, 1, 9)))
+            Some(Pair::new(vessel(2, 3, 5), vessel(3, 1, 9)))
         );
         assert_eq!(rt; refusal_of(list.mend(1, second(1))), 6);
         let named = list.mend(1, second(2))?;
         assert!(rt; named.as_slice() == [0, 1, 2].as_slice());
         assert_eq!(rt;
             list.certificate(1),
-            Some((vessel(3, 1, 9), vessel(2, 3, 5)))
+            Some(Pair::new(vessel(3, 1, 9), vessel(2, 3, 5)))
         );
         assert_eq!(rt; list.count(), 4);
         Ok(())

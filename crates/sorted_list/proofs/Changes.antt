@@ -1,39 +1,45 @@
 -- Lists through an exchange, an insert and a remove, and the searches for a place.
-use Rattle.std.proofs.Common.{◌≡◌, ℕ, zero, suc, ◌+◌, ◌<◌, ◌≤◌, Bool, true, false, cond, eqb, ◌≢◌, List, [], ◌∷◌, ◌++◌, length, get_or, take, drop, set, Some, None, sym, refl, ap, ◌∙◌, subst, inl, ⊎_elim, add-one, arith, length-set, get_or-set_other}
-use Rattle.std.specs.List.{remove, insert, swap, AllByRecursion}
+use Rattle.std.proofs.Common.{◌≡◌, ℕ, zero, suc, ◌+◌, ◌<◌, ◌≤◌, Bool, true, false, not, cond, eqb, ltb, ◌≢◌, List, [], ◌∷◌, length, get_or, set, Some, None, Option, is_some, sym, refl, ap, ◌∙◌, subst, inl, ⊎_elim, add-one, arith, length-set, get_or-set_other}
+use Rattle.std.specs.List.{remove, insert, swap, find, position, position_or_len, AllByRecursion}
+use Rattle.std.specs.Option.{unwrap_or}
 use Rattle.std.proofs.lemmas.List.Edits.{swap_is, length-insert, length-remove, get_or-insert_below, get_or-insert_above, get_or-remove_below, get_or-remove_above}
-use Rattle.std.proofs.lemmas.List.{drop_more, take_more, drop_all, get_or_default, append_assoc}
-use Rattle.std.proofs.ByRecursion.{All-weaker}
-use Rattle.std.proofs.lemmas.Bool.{eqb-true, eq-eqb, ne_eqb, cond-true, cond-false, cond_both, cases_lt}
+use Rattle.std.proofs.lemmas.List.Sums.{prefix_len-le-length}
+use Rattle.std.proofs.Math.Numerals.{one-add}
+use Rattle.std.proofs.lemmas.Bool.{false≢true, eqb-true, ne_eqb, ltb-true, ltb-false, cond-false, cond_both, cases_lt}
 use Rattle.fairway.specs.declared.course.Course.{Course}
 use Rattle.fairway.specs.Times.{Time}
 use Rattle.fairway.specs.Courses.{faster}
 use Rattle.fairway.specs.Behind.{behind}
 use Rattle.fairway.specs.Orders.{Apart, Sorted, put, load, Exchange, here, there}
+use Rattle.fairway.proofs.Lists.{nobody}
 use Rattle.fairway.proofs.Sorting.{all_put, holds_put}
 use Rattle.fairway.proofs.Standings.{all_exchange}
 use Rattle.fairway.proofs.Advance.{loses_one}
-use Rattle.sorted_list.specs.Rosters.{well, course_of, certificate_at, without}
+use Rattle.fairway.specs.Rosters.{course_of, without}
+use Rattle.fairway.proofs.Rosters.{all_without, found, of_absent}
+use Rattle.sorted_list.specs.Rosters.{well, PlaceOf}
 use Rattle.event_queue.proofs.Options.{none_some, some_same}
-use Rattle.sorted_list.specs.RostersLemmas.{Fits, found, absent, of_absent, cert_is, cert_past, well_ranged, well_apart, to_well}
+use Rattle.sorted_list.specs.RostersLemmas.{Fits, cert_is, cert_past, well_ranged, well_apart, to_well}
+use Rattle.fairway.specs.Lists.{pair_at}
+use Rattle.fairway.specs.Orders.{pair}
 
 -- ---- an exchange
-sets : (xs : List Course) (i : ℕ) (r f : Course) → certificate_at xs i ≡ Some (r, f) → Exchange r f xs (set (set xs i f) (suc i) r)
+sets : (xs : List Course) (i : ℕ) (r f : Course) → pair_at xs i ≡ Some (pair r f) → Exchange r f xs (set (set xs i f) (suc i) r)
 sets [] i r f e = absurd (none_some e)
 sets (x ∷ []) i r f e = absurd (none_some e)
 sets (x ∷ y ∷ ys) zero r f e =
     let q = some_same e in
-    subst (λ z. Exchange r f (z ∷ y ∷ ys) (f ∷ r ∷ ys)) (sym (ap (λ z. z.0) q))
-    (subst (λ z. Exchange r f (r ∷ z ∷ ys) (f ∷ r ∷ ys)) (sym (ap (λ z. z.1) q)) here)
+    subst (λ z. Exchange r f (z ∷ y ∷ ys) (f ∷ r ∷ ys)) (sym (ap (λ z. z.rear) q))
+    (subst (λ z. Exchange r f (r ∷ z ∷ ys) (f ∷ r ∷ ys)) (sym (ap (λ z. z.front) q)) here)
 sets (x ∷ y ∷ ys) (suc i) r f e = there (sets (y ∷ ys) i r f e)
 
 exchanged_sets : (xs : List Course) (i : ℕ) (d : Course) → suc i < length xs → swap xs i (i + 1) ≡ set (set xs i (get_or xs (suc i) d)) (suc i) (get_or xs i d)
 exchanged_sets xs i d h = rw add-one (sym (swap_is xs i (suc i) d (omega arith) h))
 
-pub exchange : (xs : List Course) (i : ℕ) (r f : Course) → suc i < length xs → certificate_at xs i ≡ Some (r, f) → Exchange r f xs (swap xs i (i + 1))
+pub exchange : (xs : List Course) (i : ℕ) (r f : Course) → suc i < length xs → pair_at xs i ≡ Some (pair r f) → Exchange r f xs (swap xs i (i + 1))
 exchange xs i r f h e =
     let q = some_same (sym (cert_is xs i r h) ∙ e) in
-    subst (Exchange r f xs) (sym (exchanged_sets xs i r h ∙ ap (λ z. set (set xs i z) (suc i) (get_or xs i r)) (ap (λ z. z.1) q) ∙ ap (λ z. set (set xs i f) (suc i) z) (ap (λ z. z.0) q))) (sets xs i r f e)
+    subst (Exchange r f xs) (sym (exchanged_sets xs i r h ∙ ap (λ z. set (set xs i z) (suc i) (get_or xs i r)) (ap (λ z. z.front) q) ∙ ap (λ z. set (set xs i f) (suc i) z) (ap (λ z. z.rear) q))) (sets xs i r f e)
 
 apart_exchange : {r f : Course} {xs ys : List Course} → Exchange r f xs ys → Apart xs → Apart ys
 apart_exchange here a = ((λ q. a.0.0 (sym q), a.1.0), (a.0.1, a.1.1))
@@ -55,7 +61,7 @@ length_exchange here = refl
 length_exchange (there e) = ap suc (length_exchange e)
 
 -- certificates away from the two stay
-same_sets : (xs : List Course) (i k : ℕ) (a b : Course) → k ≢ i → k ≢ suc i → suc k ≢ i → certificate_at (set (set xs i a) (suc i) b) k ≡ certificate_at xs k
+same_sets : (xs : List Course) (i k : ℕ) (a b : Course) → k ≢ i → k ≢ suc i → suc k ≢ i → pair_at (set (set xs i a) (suc i) b) k ≡ pair_at xs k
 same_sets xs i k a b p q r =
     let ys = set (set xs i a) (suc i) b in
     let l : length ys ≡ length xs = length-set (set xs i a) (suc i) b ∙ length-set xs i a in
@@ -63,16 +69,16 @@ same_sets xs i k a b p q r =
     let u : get_or ys k a ≡ get_or xs k a = get_or-set_other (set xs i a) (suc i) k b a q ∙ get_or-set_other xs i k a a p in
     let v : get_or ys (suc k) a ≡ get_or xs (suc k) a = get_or-set_other (set xs i a) (suc i) (suc k) b a s ∙ get_or-set_other xs i (suc k) a a r in
     ⊎_elim
-    (λ (h : suc k < length xs). cert_is ys k a (omega arith) ∙ ap (λ z. Some (z, get_or ys (suc k) a)) u ∙ ap (λ z. Some (get_or xs k a, z)) v ∙ sym (cert_is xs k a h))
+    (λ (h : suc k < length xs). cert_is ys k a (omega arith) ∙ ap (λ z. Some (pair z (get_or ys (suc k) a))) u ∙ ap (λ z. Some (pair (get_or xs k a) z)) v ∙ sym (cert_is xs k a h))
     (λ (h : length xs ≤ suc k). cert_past ys k (omega arith) ∙ sym (cert_past xs k h))
     (cases_lt (suc k) (length xs))
 
-pub same_certs : (xs : List Course) (i k : ℕ) → suc i < length xs → (k ≡ i → ⊥) → (k ≡ i + 1 → ⊥) → (k + 1 ≡ i → ⊥) → certificate_at (swap xs i (i + 1)) k ≡ certificate_at xs k
+pub same_certs : (xs : List Course) (i k : ℕ) → suc i < length xs → (k ≡ i → ⊥) → (k ≡ i + 1 → ⊥) → (k + 1 ≡ i → ⊥) → pair_at (swap xs i (i + 1)) k ≡ pair_at xs k
 same_certs [] i k h p q r = absurd (omega arith)
 same_certs (x ∷ xs) i k h p q r =
-    ap (λ z. certificate_at z k) (exchanged_sets (x ∷ xs) i x h) ∙ same_sets (x ∷ xs) i k (get_or (x ∷ xs) (suc i) x) (get_or (x ∷ xs) i x) p (λ e. q (omega arith)) (λ e. r (omega arith))
+    ap (λ z. pair_at z k) (exchanged_sets (x ∷ xs) i x h) ∙ same_sets (x ∷ xs) i k (get_or (x ∷ xs) (suc i) x) (get_or (x ∷ xs) i x) p (λ e. q (omega arith)) (λ e. r (omega arith))
 
-pub passed : (xs ys : List Course) (i : ℕ) → suc i < length xs → ys ≡ swap xs i (i + 1) → ((r f : Course) → certificate_at xs i ≡ Some (r, f) → faster r f ≡ true) → well xs ≡ true → (well ys ≡ true) × (load xs ≡ load ys + 1)
+pub passed : (xs ys : List Course) (i : ℕ) → suc i < length xs → ys ≡ swap xs i (i + 1) → ((r f : Course) → pair_at xs i ≡ Some (pair r f) → faster r f ≡ true) → well xs ≡ true → (well ys ≡ true) × (load xs ≡ load ys + 1)
 passed [] ys i h e F w = absurd (omega arith)
 passed (x ∷ xs) ys i h e F w =
     let r = get_or (x ∷ xs) i x in
@@ -127,93 +133,84 @@ apart_removed (x ∷ xs) (suc i) h = (all_removed (λ y. x.number ≢ y.number) 
 pub well_removed : (xs : List Course) (i : ℕ) → well xs ≡ true → well (remove xs i) ≡ true
 well_removed xs i w = to_well (remove xs i) (all_removed Fits xs i (well_ranged xs w)) (apart_removed xs i (well_apart xs w))
 
-pub absent_without : (n : ℕ) (xs : List Course) → Apart xs → course_of (without n xs) n ≡ None
-absent_without n [] a = refl
-absent_without n (x ∷ xs) a =
-    let ih = absent_without n xs a.1 in
-    cond_both (eqb x.number n) xs (x ∷ without n xs) (λ l. course_of l n ≡ None)
-    (λ t. absent n xs (All-weaker (λ y. x.number ≢ y.number) (λ y. n ≢ y.number) (λ y h q. h (eqb-true x.number n t ∙ q)) xs a.0))
-    (λ t. cond-false (eqb x.number n) (Some x) (course_of (without n xs) n) t ∙ ih)
-
-pub roster_without : (n : ℕ) (xs : List Course) (k : ℕ) → (k ≡ n → ⊥) → course_of (without n xs) k ≡ course_of xs k
-roster_without n [] k h = refl
-roster_without n (x ∷ xs) k h =
-    let ih = roster_without n xs k h in
-    cond_both (eqb x.number n) xs (x ∷ without n xs) (λ l. course_of l k ≡ course_of (x ∷ xs) k)
-    (λ t. sym (cond-false (eqb x.number k) (Some x) (course_of xs k) (ne_eqb x.number k (λ q. h (sym q ∙ eqb-true x.number n t)))))
-    (λ t. ap (λ o. cond (eqb x.number k) (Some x) o) ih)
-
-all_without : (P : Course → Type 0) (n : ℕ) (xs : List Course) → AllByRecursion P xs → AllByRecursion P (without n xs)
-all_without P n [] h = tt
-all_without P n (x ∷ xs) h =
-    let ih = all_without P n xs h.1 in
-    cond_both (eqb x.number n) xs (x ∷ without n xs) (AllByRecursion P) (λ _. h.1) (λ _. (h.0, ih))
-
 pub sorted_without : (t : Time) (n : ℕ) (xs : List Course) → Sorted t xs → Sorted t (without n xs)
 sorted_without t n [] s = tt
 sorted_without t n (x ∷ xs) s =
     let ih = sorted_without t n xs s.1 in
     cond_both (eqb x.number n) xs (x ∷ without n xs) (Sorted t) (λ _. s.1) (λ _. (all_without (λ y. behind t x y ≡ true) n xs s.0, ih))
 
--- past the last there is no certificate before or after
-pub past_certs : (xs ys : List Course) → length xs ≤ 64 → length ys ≤ 64 → (k : ℕ) → 64 ≤ k → certificate_at ys k ≡ certificate_at xs k
-past_certs xs ys h l k p = cert_past ys k (omega arith) ∙ sym (cert_past xs k (omega arith))
-
 -- ---- the searches
--- the search for a number
-pub at_yes : (n : ℕ) (xs : List Course) (i : ℕ) (d : Course) → i < length xs → (get_or xs i d).number ≡ n → course_of xs n ≡ course_of (drop i xs) n → without n xs ≡ take i xs ++ without n (drop i xs) →
-    (i < length xs) × (remove xs i ≡ without n xs) × ((e : Course) → course_of xs n ≡ Some (get_or xs i e))
-at_yes n xs i d h q a b =
-    let y = get_or xs i d in
-    let D = drop_more xs i d h in
-    let t : eqb y.number n ≡ true = eq-eqb y.number n q in
-    let u : without n (drop i xs) ≡ drop (i + 1) xs = ap (without n) D ∙ cond-true (eqb y.number n) (drop (i + 1) xs) (y ∷ without n (drop (i + 1) xs)) t in
-    let v : course_of (drop i xs) n ≡ Some y = ap (λ l. course_of l n) D ∙ cond-true (eqb y.number n) (Some y) (course_of (drop (i + 1) xs) n) t in
-    (h, sym (b ∙ ap (λ l. take i xs ++ l) u ∙ ap (λ k. take i xs ++ drop k xs) (add-one i)), (λ e. a ∙ v ∙ ap Some (get_or_default xs i d e h)))
+-- whether a course has the number n
+abbrev has_number : ℕ → Course → Bool
+has_number n x = eqb x.number n
 
-pub at_no : (n : ℕ) (xs : List Course) (i : ℕ) (d : Course) → i < length xs → ((get_or xs i d).number ≡ n → ⊥) → course_of xs n ≡ course_of (drop i xs) n → without n xs ≡ take i xs ++ without n (drop i xs) →
-    (course_of xs n ≡ course_of (drop (i + 1) xs) n) × (without n xs ≡ take (i + 1) xs ++ without n (drop (i + 1) xs))
-at_no n xs i d h q a b =
-    let y = get_or xs i d in
-    let D = drop_more xs i d h in
-    let t : eqb y.number n ≡ false = ne_eqb y.number n q in
-    let u : without n (drop i xs) ≡ y ∷ without n (drop (i + 1) xs) = ap (without n) D ∙ cond-false (eqb y.number n) (drop (i + 1) xs) (y ∷ without n (drop (i + 1) xs)) t in
-    let v : course_of (drop i xs) n ≡ course_of (drop (i + 1) xs) n = ap (λ l. course_of l n) D ∙ cond-false (eqb y.number n) (Some y) (course_of (drop (i + 1) xs) n) t in
-    (a ∙ v, b ∙ ap (λ l. take i xs ++ l) u ∙ sym (ap (λ l. l ++ without n (drop (i + 1) xs)) (take_more xs i d h) ∙ append_assoc (take i xs) (y ∷ []) (without n (drop (i + 1) xs))))
+-- the search for the course
+pub course_found : (n : ℕ) (xs : List Course) → find (has_number n) xs ≡ course_of xs n
+course_found n [] = refl
+course_found n (x ∷ xs) = ap (cond (eqb x.number n) (Some x)) (course_found n xs)
 
-pub at_end : (n : ℕ) (xs : List Course) (i : ℕ) → length xs ≤ i → course_of xs n ≡ course_of (drop i xs) n → course_of xs n ≡ None
-at_end n xs i h a = a ∙ ap (λ l. course_of l n) (drop_all i xs h)
+-- the first with the number, where there is one
+first_there : (n : ℕ) (xs : List Course) → position_or_len (has_number n) xs < length xs →
+    (remove xs (position_or_len (has_number n) xs) ≡ without n xs) × ((d : Course) → course_of xs n ≡ Some (get_or xs (position_or_len (has_number n) xs) d))
+first_there n [] h = absurd (omega arith)
+first_there n (x ∷ xs) h =
+    let i = position_or_len (has_number n) xs in
+    (elim (eqb x.number n) as (λ b. cond (not b) (1 + i) 0 < suc (length xs) → (remove (x ∷ xs) (cond (not b) (1 + i) 0) ≡ cond b xs (x ∷ without n xs)) × ((d : Course) → cond b (Some x) (course_of xs n) ≡ Some (get_or (x ∷ xs) (cond (not b) (1 + i) 0) d))) [
+      | true ↦ λ _. (refl, (λ d. refl))
+      | false ↦ λ l. let k = first_there n xs (omega arith) in (rw (one-add i) (ap (λ ys. x ∷ ys) k.0), (λ d. rw (one-add i) (k.1 d)))
+    ]) h
 
--- the search for a place
-pub put_yes : (t : Time) (c : Course) (xs : List Course) (i : ℕ) (d : Course) → i < length xs → behind t c (get_or xs i d) ≡ true → put t c xs ≡ take i xs ++ put t c (drop i xs) → insert xs i c ≡ put t c xs
-put_yes t c xs i d h b a =
-    let y = get_or xs i d in
-    let D = drop_more xs i d h in
-    let u : put t c (drop i xs) ≡ c ∷ drop i xs = ap (put t c) D ∙ cond-true (behind t c y) (c ∷ y ∷ drop (i + 1) xs) (y ∷ put t c (drop (i + 1) xs)) b ∙ ap (λ l. c ∷ l) (sym D) in
-    sym (a ∙ ap (λ l. take i xs ++ l) u)
+none_there : (n : ℕ) (xs : List Course) → length xs ≤ position_or_len (has_number n) xs → course_of xs n ≡ None
+none_there n [] h = refl
+none_there n (x ∷ xs) h =
+    let i = position_or_len (has_number n) xs in
+    (elim (eqb x.number n) as (λ b. suc (length xs) ≤ cond (not b) (1 + i) 0 → cond b (Some x) (course_of xs n) ≡ None) [
+      | true ↦ λ l. absurd (omega arith)
+      | false ↦ λ l. none_there n xs (omega arith)
+    ]) h
 
-pub put_no : (t : Time) (c : Course) (xs : List Course) (i : ℕ) (d : Course) → i < length xs → behind t c (get_or xs i d) ≡ false → put t c xs ≡ take i xs ++ put t c (drop i xs) → put t c xs ≡ take (i + 1) xs ++ put t c (drop (i + 1) xs)
-put_no t c xs i d h b a =
-    let y = get_or xs i d in
-    let D = drop_more xs i d h in
-    let u : put t c (drop i xs) ≡ y ∷ put t c (drop (i + 1) xs) = ap (put t c) D ∙ cond-false (behind t c y) (c ∷ y ∷ drop (i + 1) xs) (y ∷ put t c (drop (i + 1) xs)) b in
-    a ∙ ap (λ l. take i xs ++ l) u ∙ sym (ap (λ l. l ++ put t c (drop (i + 1) xs)) (take_more xs i d h) ∙ append_assoc (take i xs) (y ∷ []) (put t c (drop (i + 1) xs)))
+pub place_found : (n : ℕ) (xs : List Course) → PlaceOf xs n (position (has_number n) xs)
+place_found n xs =
+    let i = position_or_len (has_number n) xs in
+    cond_both (ltb i (length xs)) (Some i) None (PlaceOf xs n)
+    (λ t. let h = ltb-true i (length xs) t in let k = first_there n xs h in (h, k.0, k.1))
+    (λ f. none_there n xs (ltb-false i (length xs) f))
 
-pub put_end : (t : Time) (c : Course) (xs : List Course) (i : ℕ) → i ≡ length xs → put t c xs ≡ take i xs ++ put t c (drop i xs) → insert xs (length xs) c ≡ put t c xs
-put_end t c xs i e a =
-    let D : drop i xs ≡ [] = drop_all i xs (omega arith) in
-    ap (λ k. insert xs k c) (sym e) ∙ ap (λ l. take i xs ++ c ∷ l) D ∙ sym (a ∙ ap (λ l. take i xs ++ put t c l) D)
+pub there_is : (n : ℕ) (xs : List Course) (o : Option ℕ) → PlaceOf xs n o → is_some o ≡ true → (d : Course) × (course_of xs n ≡ Some d)
+there_is n xs None p e = absurd (false≢true e)
+there_is n xs (Some i) p e = (get_or xs i nobody, p.2 nobody)
+
+pub there_is_none : (n : ℕ) (xs : List Course) (o : Option ℕ) → PlaceOf xs n o → is_some o ≡ false → course_of xs n ≡ None
+there_is_none n xs None p e = p
+there_is_none n xs (Some i) p e = absurd (false≢true (sym e))
+
+-- the first place whose course the new one is behind
+put_there : (t : Time) (c : Course) (xs : List Course) → insert xs (position_or_len (behind t c) xs) c ≡ put t c xs
+put_there t c [] = refl
+put_there t c (y ∷ ys) =
+    let i = position_or_len (behind t c) ys in
+    elim (behind t c y) as (λ b. insert (y ∷ ys) (cond (not b) (1 + i) 0) c ≡ cond b (c ∷ y ∷ ys) (y ∷ put t c ys)) [
+      | true ↦ refl
+      | false ↦ rw (one-add i) (ap (λ l. y ∷ l) (put_there t c ys))
+    ]
+
+pub put_found : (t : Time) (c : Course) (xs : List Course) → insert xs (unwrap_or (position (behind t c) xs) (length xs)) c ≡ put t c xs
+put_found t c xs =
+    let i = position_or_len (behind t c) xs in
+    cond_both (ltb i (length xs)) (Some i) None (λ o. insert xs (unwrap_or o (length xs)) c ≡ put t c xs)
+    (λ _. put_there t c xs)
+    (λ f. ap (λ k. insert xs k c) (omega (arith, ltb-false i (length xs) f, prefix_len-le-length (λ y. not (behind t c y)) xs)) ∙ put_there t c xs)
 
 -- certificates before a place stay
-before_same : (xs ys : List Course) (d : Course) (p k : ℕ) → p ≤ length xs → p ≤ length ys → ((j : ℕ) → j < p → get_or ys j d ≡ get_or xs j d) → k + 1 < p → certificate_at ys k ≡ certificate_at xs k
+before_same : (xs ys : List Course) (d : Course) (p k : ℕ) → p ≤ length xs → p ≤ length ys → ((j : ℕ) → j < p → get_or ys j d ≡ get_or xs j d) → k + 1 < p → pair_at ys k ≡ pair_at xs k
 before_same xs ys d p k hx hy e h =
-    cert_is ys k d (omega arith) ∙ ap (λ z. Some (z, get_or ys (suc k) d)) (e k (omega arith)) ∙ ap (λ z. Some (get_or xs k d, z)) (e (suc k) (omega arith)) ∙ sym (cert_is xs k d (omega arith))
+    cert_is ys k d (omega arith) ∙ ap (λ z. Some (pair z (get_or ys (suc k) d))) (e k (omega arith)) ∙ ap (λ z. Some (pair (get_or xs k d) z)) (e (suc k) (omega arith)) ∙ sym (cert_is xs k d (omega arith))
 
-pub certs_in : (xs ys : List Course) (p : ℕ) (c : Course) → p ≤ length xs → ys ≡ insert xs p c → (k : ℕ) → k + 1 < p → certificate_at ys k ≡ certificate_at xs k
+pub certs_in : (xs ys : List Course) (p : ℕ) (c : Course) → p ≤ length xs → ys ≡ insert xs p c → (k : ℕ) → k + 1 < p → pair_at ys k ≡ pair_at xs k
 certs_in xs ys p c h e k l =
     before_same xs ys c p k h (omega (arith, ap length e, length-insert xs p c h)) (λ j i. ap (λ z. get_or z j c) e ∙ get_or-insert_below xs p c c j i h) l
 
-pub certs_out : (xs ys : List Course) (d : Course) (p : ℕ) → p < length xs → ys ≡ remove xs p → (k : ℕ) → k + 1 < p → certificate_at ys k ≡ certificate_at xs k
+pub certs_out : (xs ys : List Course) (d : Course) (p : ℕ) → p < length xs → ys ≡ remove xs p → (k : ℕ) → k + 1 < p → pair_at ys k ≡ pair_at xs k
 certs_out xs ys d p h e k l =
     before_same xs ys d p k (omega arith) (omega (arith, ap length e, length-remove xs p h)) (λ j i. ap (λ z. get_or z j d) e ∙ get_or-remove_below xs p d j i h) l
 
@@ -222,7 +219,7 @@ same_after : (xs zs ys : List Course) (d x : Course) (i p : ℕ) → i < length 
 same_after xs zs ys d x i p h w e g j l m =
     ap (λ z. get_or z (j + 1) d) g ∙ get_or-insert_above zs p x d j m w ∙ ap (λ z. get_or z j d) e ∙ get_or-remove_above xs i d j l h
 
-pub certs_after : (xs zs ys : List Course) (d x : Course) (i p : ℕ) → i < length xs → p ≤ length zs → zs ≡ remove xs i → ys ≡ insert zs p x → (k : ℕ) → i < k → p < k → certificate_at ys k ≡ certificate_at xs k
+pub certs_after : (xs zs ys : List Course) (d x : Course) (i p : ℕ) → i < length xs → p ≤ length zs → zs ≡ remove xs i → ys ≡ insert zs p x → (k : ℕ) → i < k → p < k → pair_at ys k ≡ pair_at xs k
 certs_after xs zs ys d x i p h w e g zero l m = absurd (omega arith)
 certs_after xs zs ys d x i p h w e g (suc j) l m =
     let a = same_after xs zs ys d x i p h w e g j (omega arith) (omega arith) in
@@ -231,6 +228,6 @@ certs_after xs zs ys d x i p h w e g (suc j) l m =
     let b' : get_or ys (suc (suc j)) d ≡ get_or xs (suc (suc j)) d = subst (λ k. get_or ys k d ≡ get_or xs k d) (add-one (j + 1) ∙ ap suc (add-one j)) b in
     let q : length ys ≡ length xs = omega (arith, ap length g, length-insert zs p x w, ap length e, length-remove xs i h) in
     ⊎_elim
-    (λ (s : suc (suc j) < length xs). cert_is ys (suc j) d (omega arith) ∙ ap (λ z. Some (z, get_or ys (suc (suc j)) d)) a' ∙ ap (λ z. Some (get_or xs (suc j) d, z)) b' ∙ sym (cert_is xs (suc j) d s))
+    (λ (s : suc (suc j) < length xs). cert_is ys (suc j) d (omega arith) ∙ ap (λ z. Some (pair z (get_or ys (suc (suc j)) d))) a' ∙ ap (λ z. Some (pair (get_or xs (suc j) d) z)) b' ∙ sym (cert_is xs (suc j) d s))
     (λ (s : length xs ≤ suc (suc j)). cert_past ys (suc j) (omega arith) ∙ sym (cert_past xs (suc j) s))
     (cases_lt (suc (suc j)) (length xs))

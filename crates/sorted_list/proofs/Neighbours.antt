@@ -1,8 +1,8 @@
 -- Neighbours in a list that is in order.
-use Rattle.std.proofs.Common.{◌≡◌, ℕ, zero, suc, ◌+◌, ◌-◌, ◌<◌, ◌≤◌, true, false, List, [], ◌∷◌, length, get_or, Some, None, sym, refl, ap, ◌∙◌, subst, inl, inr, ⊎_elim, arith}
-use Rattle.std.proofs.lemmas.List.{get_or_default}
+use Rattle.std.proofs.Common.{◌≡◌, ℕ, zero, suc, ◌+◌, ◌-◌, ◌<◌, ◌≤◌, true, false, List, [], ◌∷◌, length, get_or, slice_get, Some, None, sym, refl, ap, ◌∙◌, subst, inl, inr, ⊎_elim, arith}
+use Rattle.std.proofs.lemmas.Option.{slice_get-get_or, slice_get_past}
 use Rattle.std.proofs.ByRecursion.{All-get_or}
-use Rattle.std.proofs.lemmas.Bool.{cases_order, both_ways}
+use Rattle.std.proofs.lemmas.Bool.{cases_lt, cases_order, both_ways}
 use Rattle.fairway.specs.Times.{Time}
 use Rattle.fairway.specs.Behind.{behind}
 use Rattle.fairway.specs.Orders.{Holds, Sorted}
@@ -11,11 +11,14 @@ use Rattle.fairway.specs.Courses.{Due}
 use Rattle.fairway.specs.Standing.{Stands}
 use Rattle.fairway.proofs.Sorting.{self, back}
 use Rattle.fairway.proofs.Lists.{nobody}
-use Rattle.sorted_list.specs.Rosters.{course_of, well}
+use Rattle.fairway.specs.Rosters.{course_of}
+use Rattle.fairway.proofs.Rosters.{found, of_found}
+use Rattle.sorted_list.specs.Rosters.{well}
 use Rattle.sorted_list.specs.Ranks.{Next, NextAhead, NextBehind}
 use Rattle.event_queue.proofs.Options.{some_same}
-use Rattle.sorted_list.specs.RostersLemmas.{found, of_found, well_apart}
+use Rattle.sorted_list.specs.RostersLemmas.{well_apart}
 use Rattle.sorted_list.specs.Laws.{Each, rests_sorted}
+use Rattle.sorted_list.proofs.Beside.{rear, rear_none, rear_some}
 
 -- the place of each that the list holds
 pub place_in : (xs : List Course) (c d : Course) → Holds xs c → (j : ℕ) × (j < length xs) × (get_or xs j d ≡ c)
@@ -91,17 +94,20 @@ module _ (xs : List Course) (w : well xs ≡ true) (n i : ℕ) (h : i < length x
   abbrev Resting : Time → Type 0
   Resting t = Stands t xs × Each xs (λ r f. Due t r f → ⊥)
 
-  pub ahead_some : (x : Course) → i + 1 < length xs → x ≡ get_or xs (i + 1) x → (c : Course) → course_of xs n ≡ Some c → (t : Time) → Resting t → NextAhead t (course_of xs) c (Some x)
-  ahead_some x l e c q t r =
-      subst (λ z. NextAhead t (course_of xs) c (Some z)) (sym (e ∙ get_or_default xs (i + 1) x nobody l)) (next_ahead t xs w (rests_sorted xs t r.0 r.1) nobody i c l (at_own c q))
+  -- the one at the next place is next in front
+  pub next_in_front : (c : Course) → course_of xs n ≡ Some c → (t : Time) → Resting t → NextAhead t (course_of xs) c (slice_get xs (i + 1))
+  next_in_front c q t r =
+      let s = rests_sorted xs t r.0 r.1 in
+      ⊎_elim
+      (λ (l : i + 1 < length xs). subst (NextAhead t (course_of xs) c) (sym (slice_get-get_or xs (i + 1) nobody l)) (next_ahead t xs w s nobody i c l (at_own c q)))
+      (λ (l : length xs ≤ i + 1). subst (NextAhead t (course_of xs) c) (sym (slice_get_past xs (i + 1) l)) (none_ahead t xs w s nobody i c h l (at_own c q)))
+      (cases_lt (i + 1) (length xs))
 
-  pub ahead_none : length xs ≤ i + 1 → (c : Course) → course_of xs n ≡ Some c → (t : Time) → Resting t → NextAhead t (course_of xs) c None
-  ahead_none l c q t r = none_ahead t xs w (rests_sorted xs t r.0 r.1) nobody i c h l (at_own c q)
-
-  pub astern_some : (x : Course) → 0 < i → x ≡ get_or xs (i - 1) x → (c : Course) → course_of xs n ≡ Some c → (t : Time) → Resting t → NextBehind t (course_of xs) c (Some x)
-  astern_some x z e c q t r =
-      subst (λ y. NextBehind t (course_of xs) c (Some y)) (sym (e ∙ get_or_default xs (i - 1) x nobody (omega arith))) (next_behind t xs w (rests_sorted xs t r.0 r.1) nobody i c z h (at_own c q))
-
-  pub astern_none : i ≡ 0 → (c : Course) → course_of xs n ≡ Some c → (t : Time) → Resting t → NextBehind t (course_of xs) c None
-  astern_none z c q t r =
-      none_behind t xs w (rests_sorted xs t r.0 r.1) nobody c (omega arith) (ap (λ k. get_or xs k nobody) (sym z) ∙ at_own c q)
+  -- the last before its place is next behind
+  pub next_behind_it : (c : Course) → course_of xs n ≡ Some c → (t : Time) → Resting t → NextBehind t (course_of xs) c (rear xs i)
+  next_behind_it c q t r =
+      let s = rests_sorted xs t r.0 r.1 in
+      ⊎_elim
+      (λ (z : 0 < i). subst (NextBehind t (course_of xs) c) (sym (rear_some xs i z h ∙ slice_get-get_or xs (i - 1) nobody (omega arith))) (next_behind t xs w s nobody i c z h (at_own c q)))
+      (λ (z : i ≤ 0). let e : 0 ≡ i = omega arith in subst (NextBehind t (course_of xs) c) (sym (rear_none xs i z)) (none_behind t xs w s nobody c (omega arith) (ap (λ k. get_or xs k nobody) e ∙ at_own c q)))
+      (cases_lt 0 i)

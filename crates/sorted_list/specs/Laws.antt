@@ -9,15 +9,19 @@ use Rattle.fairway.specs.Standing.{Stands, InOrderOrDue, NotLevelBefore}
 use Rattle.fairway.specs.declared.course.Course.{Course}
 use Rattle.fairway.proofs.Sorting.{held}
 use Rattle.fairway.proofs.Standings.{near, stands_sorted, stands_later, sorted_stands, sorted_none_due}
+use Rattle.fairway.specs.Rosters.{course_of}
+use Rattle.fairway.proofs.Rosters.{absent, found, of_found}
 use Rattle.kinetic.specs.Structures.{Aboard, Front, vessels}
 use Rattle.kinetic.proofs.Counts.{vessels_none, vessels_more}
-use Rattle.sorted_list.specs.Rosters.{course_of, certificate_at, last_number, last_of, well}
-use Rattle.sorted_list.specs.RostersLemmas.{Fits, found, of_found, absent, cert_near, near_cert, cert_holds, holds_last, behind_last, well_ranged, well_apart, well_rest}
+use Rattle.sorted_list.specs.Rosters.{last_number, last_of, well}
+use Rattle.sorted_list.specs.RostersLemmas.{Fits, cert_near, near_cert, cert_holds, holds_last, behind_last, well_ranged, well_apart, well_rest}
+use Rattle.fairway.specs.Lists.{pair_at}
+use Rattle.fairway.specs.Orders.{pair}
 
 module _ (xs : List Course) where
   -- P of each two neighbours
   abbrev pub Each : (Course → Course → Type 0) → Type 0
-  Each P = (i : ℕ) (r f : Course) → certificate_at xs i ≡ Some (r, f) → P r f
+  Each P = (i : ℕ) (r f : Course) → pair_at xs i ≡ Some (pair r f) → P r f
 
   pub ordered : (t : Time) → Stands t xs → Each (InOrderOrDue t)
   ordered t s = cert_near (InOrderOrDue t) xs (near t xs s)
@@ -32,7 +36,7 @@ module _ (xs : List Course) where
   pub lasts : (t u : Time) → Proper t → Proper u → t ≤ᵗ u → Stands t xs → Each (NotLevelBefore u) → Stands u xs
   lasts t u pt pu l s n = stands_later t u pt pu l xs s (near_cert (NotLevelBefore u) xs n)
 
-  pub certified : length xs ≤ 64 → well xs ≡ true → (i : ℕ) (r f : Course) → certificate_at xs i ≡ Some (r, f) → (i < 64) × (course_of xs r.number ≡ Some r) × (course_of xs f.number ≡ Some f)
+  pub certified : length xs ≤ 64 → well xs ≡ true → (i : ℕ) (r f : Course) → pair_at xs i ≡ Some (pair r f) → (i < 64) × (course_of xs r.number ≡ Some r) × (course_of xs f.number ≡ Some f)
   certified l w i r f e =
       let k = cert_holds xs i r f e in
       let a = well_apart xs w in

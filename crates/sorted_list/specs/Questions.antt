@@ -6,7 +6,7 @@ use Rattle.fairway.specs.declared.course.Course.{Course}
 use Rattle.kinetic.specs.Structures.{Meaning, Rests, vessel_refusal}
 use Rattle.kinetic.specs.declared.refusal.Refusal.{Refusal}
 use Rattle.sorted_list.specs.Means.{list_meaning}
-use Rattle.sorted_list.specs.Rosters.{next_after, next_before}
+use Rattle.sorted_list.specs.Rosters.{PlaceOf, next_after, next_before}
 use Rattle.sorted_list.specs.Ranks.{in_front, NextAhead, NextBehind}
 use Rattle.sorted_list.specs.declared.list.SortedList.{SortedList}
 
@@ -15,6 +15,11 @@ courses_of s = vec_items s.courses
 
 abbrev pub means : Meaning SortedList
 means = list_meaning courses_of
+
+-- the place of the vessel n, or why it has none
+abbrev pub Placed : SortedList → ℕ → Result ℕ Refusal → Type 0
+Placed s n (Ok i) = (vessel_refusal means s n ≡ None) × PlaceOf (courses_of s) n (Some i)
+Placed s n (Err e) = vessel_refusal means s n ≡ Some e
 
 -- while it rests, the courses are in order, and are the order of every roster of these vessels
 pub record InOrder (s : SortedList) (courses : List Course) : Type 0 where

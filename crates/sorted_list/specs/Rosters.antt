@@ -1,25 +1,9 @@
 -- A list of courses as a roster, and its neighbours as certificates.
-use Rattle.std.specs.Prelude.{◌≡◌, ℕ, zero, suc, ◌<◌, Bool, true, cond, not, ◌&&◌, List, [], ◌∷◌, length, Some, None, Option, ◌==◌, nat_lt, slice_index_or}
+use Rattle.std.specs.Prelude.{◌≡◌, ℕ, ◌<◌, Bool, true, cond, not, ◌&&◌, List, [], ◌∷◌, length, Some, None, Option, ◌==◌, nat_lt, slice_index_or}
 use Rattle.std.specs.List.{remove}
 use Rattle.fairway.specs.declared.course.Course.{Course}
+use Rattle.fairway.specs.Rosters.{course_of, without}
 use Rattle.kinetic.specs.Limits.{out_of_range}
-
--- the course with the number
-abbrev pub course_of : List Course → ℕ → Option Course
-course_of [] n = None
-course_of (x ∷ xs) n = cond (x.number == n) (Some x) (course_of xs n)
-
--- the courses without the vessel n
-abbrev pub without : ℕ → List Course → List Course
-without n [] = []
-without n (x ∷ xs) = cond (x.number == n) xs (x ∷ without n xs)
-
--- the i-th and the next, rear first
-abbrev pub certificate_at : List Course → ℕ → Option (Course × Course)
-certificate_at [] i = None
-certificate_at (x ∷ []) i = None
-certificate_at (x ∷ y ∷ ys) zero = Some (x, y)
-certificate_at (x ∷ y ∷ ys) (suc i) = certificate_at (y ∷ ys) i
 
 -- the number of the last
 abbrev pub last_of : Course → List Course → Course

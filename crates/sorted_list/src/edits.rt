@@ -3,9 +3,11 @@ ghost use Rattle.std.specs.List.{remove, insert, swap};
 ghost use Rattle.fairway.specs.Stamps.{time_of};
 ghost use Rattle.fairway.specs.Courses.{InRange, faster};
 ghost use Rattle.fairway.specs.Orders.{put};
+ghost use Rattle.fairway.specs.Rosters.{course_of};
 ghost use Rattle.kinetic.specs.Structures.{Cleared};
-ghost use Rattle.sorted_list.specs.Rosters.{course_of, certificate_at};
 ghost use Rattle.sorted_list.specs.Questions.{means};
+ghost use Rattle.fairway.specs.Lists.{pair_at};
+ghost use Rattle.fairway.specs.Orders.{pair};
 
 use crate::list::SortedList;
 use crate::places::{crossings, place_for};
@@ -25,7 +27,7 @@ impl SortedList {
     // Exchanges a vessel, which is faster, with the next.
     pub(crate) fn exchange(&mut self, place: usize)
         requires within { place + 1 < vec_len self.old.courses }
-        requires faster { (r f : Course) → certificate_at self.old.courses.items place ≡ Some (r, f) → faster r f ≡ true }
+        requires faster { (r f : Course) → pair_at self.old.courses.items place ≡ Some (pair r f) → faster r f ≡ true }
         ensures { self.new.courses.items ≡ swap self.old.courses.items place (place + 1) }
     {
         self.courses.swap(place, place + 1);

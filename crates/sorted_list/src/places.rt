@@ -2,7 +2,7 @@ ghost use Rattle.std.specs.Prelude.{◌≡◌, ℕ, ◌+◌, ◌<◌, ◌≤◌,
 ghost use Rattle.std.specs.List.{insert};
 ghost use Rattle.fairway.specs.Stamps.{time_of};
 ghost use Rattle.fairway.specs.Orders.{put};
-ghost use Rattle.kinetic.specs.Numbers.{listed, among};
+ghost use Rattle.kinetic.specs.Numbers.{among};
 ghost use Rattle.sorted_list.specs.Rosters.{PlaceOf};
 ghost use Rattle.sorted_list.specs.Loads.{faster_than, crossed};
 ghost use Rattle.sorted_list.specs.Ranks.{in_front};
@@ -17,13 +17,7 @@ fn count_faster(courses: &[Course], front: Course) -> usize
     ensures count { result ≡ faster_than front courses.now }
     ensures few { result ≤ length courses.now }
 {
-    let mut count = 0;
-    for rear in courses {
-        if rear.is_faster(front) {
-            count += 1;
-        }
-    }
-    count
+    courses.iter().filter(|rear| rear.is_faster(front)).count()
 }
 
 // How many of the courses are in front of a vessel.
@@ -31,13 +25,10 @@ pub(crate) fn count_in_front(courses: &[Course], own: Course, at: Stamp) -> usiz
     ensures count { result ≡ in_front (time_of at) own courses.now }
     ensures few { result ≤ length courses.now }
 {
-    let mut count = 0;
-    for other in courses {
-        if own.is_behind(*other, at) {
-            count += 1;
-        }
-    }
-    count
+    courses
+        .iter()
+        .filter(|other| own.is_behind(**other, at))
+        .count()
 }
 
 // The pairs with a faster rear that a course makes with those before and after its place.
@@ -46,38 +37,33 @@ pub(crate) fn crossings(courses: &[Course], place: usize, course: Course) -> usi
     ensures count { result ≡ crossed courses.now place course }
     ensures few { result ≤ 128 }
 {
-    count_faster(&courses[0..place], course) + count_slower(&courses[place..], course)
+    count_faster(&courses[..place], course) + count_slower(&courses[place..], course)
 }
 
 // The place of the vessel with a number, counted from 0 at the rear, or none.
 pub fn place_of(courses: &[Course], number: u16) -> Option<usize>
     ensures { PlaceOf courses.now number result }
 {
-    for (place, course) in courses.iter().enumerate() {
-        if course.number == number {
-            return Some(place);
-        }
-    }
-    None
+    courses.iter().position(|course| course.number == number)
 }
 
-// The place for a course: before the first vessel, from the rear, that it is behind.
+// The place for a course: before the first vessel, from the rear, that it is behind. It looks from one end, since
+// at a given instant the list need not be in order, and then a search by halves finds any place.
 pub fn place_for(courses: &[Course], course: Course, at: Stamp) -> usize
     ensures within { result ≤ length courses.now }
     ensures put { insert courses.now result course ≡ put (time_of at) course courses.now }
 {
-    for (place, other) in courses.iter().enumerate() {
-        if course.is_behind(*other, at) {
-            return place;
-        }
-    }
-    courses.len()
+    courses
+        .iter()
+        .position(|other| course.is_behind(*other, at))
+        .unwrap_or(courses.len())
 }
 
-// The certificate numbers from the one before a place on, below an end.
+// The certificate numbers from the one before a place on, below an end. They are pushed one by one: an
+// `Extend` of `Numbers` would be this loop, for this one caller.
 pub(crate) fn numbers_from(place: usize, end: usize) -> Numbers
     requires { end ≤ 64 }
-    ensures { (i : ℕ) → i < end → among i (listed result) ≡ false → i + 1 < place }
+    ensures { (i : ℕ) → i < end → among i result ≡ false → i + 1 < place }
 {
     let mut numbers = Numbers::new();
     let first = place.saturating_sub(1);

@@ -1,6 +1,6 @@
 ghost use Rattle.std.specs.Prelude.{◌≡◌};
 ghost use Rattle.fairway.specs.Stamps.{time_of};
-ghost use Rattle.sorted_list.specs.Questions.{InOrder, Ranked, Ahead, Astern};
+ghost use Rattle.sorted_list.specs.Questions.{InOrder, Placed, Ranked, Ahead, Astern};
 
 use crate::list::SortedList;
 use crate::places::{count_in_front, place_of};
@@ -16,17 +16,21 @@ impl SortedList {
         self.courses.as_slice()
     }
 
-    // The rank of a vessel: one more than the number of vessels in front of it.
-    pub fn rank(&self, number: u16, at: Stamp) -> Result<usize, Refusal>
-        ensures { Ranked (time_of at) self.now number result }
+    // The place of a vessel, counted from 0 at the rear, or why a question on it is refused.
+    pub(crate) fn place(&self, number: u16) -> Result<usize, Refusal>
+        ensures { Placed self.now number result }
     {
         if number == 0 {
             return Err(Refusal::NumberZero);
         }
-        let Some(place) = place_of(self.courses.as_slice(), number) else {
-            return Err(Refusal::UnknownVessel);
-        };
-        let own = self.courses[place];
+        place_of(self.courses.as_slice(), number).ok_or(Refusal::UnknownVessel)
+    }
+
+    // The rank of a vessel: one more than the number of vessels in front of it.
+    pub fn rank(&self, number: u16, at: Stamp) -> Result<usize, Refusal>
+        ensures { Ranked (time_of at) self.now number result }
+    {
+        let own = self.courses[self.place(number)?];
         Ok(count_in_front(self.courses.as_slice(), own, at) + 1)
     }
 
@@ -34,31 +38,15 @@ impl SortedList {
     pub fn ahead(&self, number: u16) -> Result<Option<Course>, Refusal>
         ensures { Ahead self.now number result }
     {
-        if number == 0 {
-            return Err(Refusal::NumberZero);
-        }
-        let Some(place) = place_of(self.courses.as_slice(), number) else {
-            return Err(Refusal::UnknownVessel);
-        };
-        if place + 1 >= self.courses.len() {
-            return Ok(None);
-        }
-        Ok(Some(self.courses[place + 1]))
+        let place = self.place(number)?;
+        Ok(self.courses.get(place + 1).copied())
     }
 
     // The vessel next behind a vessel, or none.
     pub fn astern(&self, number: u16) -> Result<Option<Course>, Refusal>
         ensures { Astern self.now number result }
     {
-        if number == 0 {
-            return Err(Refusal::NumberZero);
-        }
-        let Some(place) = place_of(self.courses.as_slice(), number) else {
-            return Err(Refusal::UnknownVessel);
-        };
-        if place == 0 {
-            return Ok(None);
-        }
-        Ok(Some(self.courses[place - 1]))
+        let place = self.place(number)?;
+        Ok(self.courses[..place].last().copied())
     }
 }

@@ -1,4 +1,4 @@
-ghost use Rattle.sorted_list.specs.Means.{list_meaning};
+ghost use Rattle.sorted_list.specs.Means.{Checked, list_meaning};
 ghost use Rattle.sorted_list.specs.Laws;
 ghost use Rattle.sorted_list.specs.Laws.{rests_sorted, front, lasts};
 ghost use Rattle.sorted_list.specs.ListStructureLemmas.{few};
@@ -7,11 +7,25 @@ ghost use Rattle.sorted_list.specs.LoadsLemmas.{load_bounded};
 use crate::list::SortedList;
 use crate::places::{numbers_from, place_of};
 use fairway::course::Course;
+use fairway::pair::Pair;
 use fairway::stamp::Stamp;
 use kinetic::limits::{is_certificate_due, is_out_of_range};
 use kinetic::numbers::Numbers;
 use kinetic::refusal::Refusal;
 use kinetic::structure::Structure;
+
+// Refuses a course that has no number, or is out of range.
+fn check(course: Course) -> Result<(), Refusal>
+    ensures { Checked course result }
+{
+    if course.number == 0 {
+        return Err(Refusal::NumberZero);
+    }
+    if is_out_of_range(course) {
+        return Err(Refusal::OutOfRange);
+    }
+    Ok(())
+}
 
 // The sorted list as a kinetic structure: the certificate of a number is of the vessel at that place and
 // the next, and a mend exchanges the two.
@@ -40,13 +54,8 @@ impl Structure for SortedList {
     }
 
     fn enter(&mut self, course: Course, at: Stamp) -> Result<Numbers, Refusal> {
-        if course.number == 0 {
-            return Err(Refusal::NumberZero);
-        }
-        if is_out_of_range(course) {
-            return Err(Refusal::OutOfRange);
-        }
-        if let Some(_) = place_of(self.courses.as_slice(), course.number) {
+        check(course)?;
+        if place_of(self.courses.as_slice(), course.number).is_some() {
             return Err(Refusal::AlreadyAboard);
         }
         let count = self.courses.len();
@@ -58,26 +67,14 @@ impl Structure for SortedList {
     }
 
     fn leave(&mut self, number: u16, at: Stamp) -> Result<Numbers, Refusal> {
-        if number == 0 {
-            return Err(Refusal::NumberZero);
-        }
-        let Some(place) = place_of(self.courses.as_slice(), number) else {
-            return Err(Refusal::UnknownVessel);
-        };
+        let place = self.place(number)?;
         self.take_out(place);
         Ok(numbers_from(place, self.courses.len()))
     }
 
     fn steer(&mut self, course: Course, at: Stamp) -> Result<Numbers, Refusal> {
-        if course.number == 0 {
-            return Err(Refusal::NumberZero);
-        }
-        if is_out_of_range(course) {
-            return Err(Refusal::OutOfRange);
-        }
-        let Some(old) = place_of(self.courses.as_slice(), course.number) else {
-            return Err(Refusal::UnknownVessel);
-        };
+        check(course)?;
+        let old = self.place(course.number)?;
         self.take_out(old);
         let new = self.put_in(course, at);
         Ok(numbers_from(old.min(new), old.max(new) + 1))
@@ -91,18 +88,17 @@ impl Structure for SortedList {
         Ok(numbers_from(certificate, certificate + 2))
     }
 
-    fn certificate(&self, number: usize) -> Option<(Course, Course)> {
-        if number < 63 && number + 1 < self.courses.len() {
-            return Some((self.courses[number], self.courses[number + 1]));
-        }
-        None
+    fn certificate(&self, number: usize) -> Option<Pair> {
+        let rear = self.courses.get(number)?;
+        let front = self.courses.get(number + 1)?;
+        Some(Pair::new(*rear, *front))
     }
 
     fn course(&self, number: u16) -> Option<Course> {
-        match place_of(self.courses.as_slice(), number) {
-            Some(place) => Some(self.courses[place]),
-            None => None,
-        }
+        self.courses
+            .iter()
+            .find(|course| course.number == number)
+            .copied()
     }
 
     fn count(&self) -> usize {
@@ -114,10 +110,6 @@ impl Structure for SortedList {
     }
 
     fn foremost(&self) -> Option<u16> {
-        let count = self.courses.len();
-        if count == 0 {
-            return None;
-        }
-        Some(self.courses[count - 1].number)
+        self.courses.last().map(|course| course.number)
     }
 }

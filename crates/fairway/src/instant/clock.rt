@@ -22,19 +22,14 @@ impl Instant {
 
     // The instant of so many seconds and a fraction, in lowest terms or not. Refused where the denominator
     // is 0 or above 1,000, the numerator is not below it, or it is later than the clock's last second.
+    #[tactic(auto, using(crate::proofs::Instants::divisor_pos))]
     pub fn new(seconds: u64, numerator: u16, denominator: u16) -> Result<Instant, Refusal>
         ensures { Made seconds numerator denominator result }
     {
-        if denominator == 0 {
+        if !(1..=1000).contains(&denominator) || numerator >= denominator {
             return Err(Refusal::NoSuchInstant);
         }
-        if denominator > 1000 {
-            return Err(Refusal::NoSuchInstant);
-        }
-        if numerator >= denominator {
-            return Err(Refusal::NoSuchInstant);
-        }
-        if seconds > 16_777_216 || (seconds == 16_777_216 && numerator > 0) {
+        if (seconds, numerator) > (16_777_216, 0) {
             return Err(Refusal::NoSuchInstant);
         }
         let common = greatest_common_divisor(numerator, denominator);
@@ -49,37 +44,43 @@ impl Instant {
     pub fn stamp(&self) -> Stamp
         ensures { result ≡ stamp_of self.now }
     {
-        Stamp {
-            seconds: self.seconds,
-            numerator: self.numerator,
-            denominator_less_one: self.denominator - 1,
-        }
+        Stamp::from(*self)
     }
 
     // Whether this instant is earlier.
+    #[tactic(auto, using(crate::proofs::Instants::told_before))]
     pub fn is_before(&self, other: &Instant) -> bool
         ensures { Decides (value self.now <ᵗ value other.now) result }
     {
-        self.stamp().is_earlier(&other.stamp())
+        self < other
     }
 
     // Whether this instant is later.
+    #[tactic(auto, using(crate::proofs::Instants::told_after))]
     pub fn is_after(&self, other: &Instant) -> bool
         ensures { Decides (value other.now <ᵗ value self.now) result }
     {
-        other.is_before(self)
+        self > other
     }
 
     // Whether the two are the same instant.
+    #[tactic(auto, using(crate::proofs::Instants::told_same))]
     pub fn is_same(&self, other: &Instant) -> bool
         ensures { SameInstant self.now other.now result }
     {
-        if self.seconds != other.seconds {
-            return false;
+        self == other
+    }
+}
+
+// The instant as a plain triple.
+impl From<Instant> for Stamp {
+    ghost from_gives = { λ instant stamp. stamp ≡ stamp_of instant };
+
+    fn from(instant: Instant) -> Stamp {
+        Stamp {
+            seconds: instant.seconds,
+            numerator: instant.numerator,
+            denominator_less_one: instant.denominator - 1,
         }
-        if self.numerator != other.numerator {
-            return false;
-        }
-        self.denominator == other.denominator
     }
 }

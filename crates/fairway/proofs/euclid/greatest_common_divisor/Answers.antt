@@ -1,14 +1,12 @@
-use Rattle.std.proofs.Common.{◌≡◌, ◌<◌, sym, ap, ◌∙◌, arith}
-use Rattle.fairway.specs.Fractions.{gcd}
-use Rattle.fairway.proofs.Fractions.{gcd_step, gcd_zero, common_divisor}
+use Rattle.std.proofs.Common.{arith}
+use Rattle.std.proofs.lemmas.Nat.Gcd.{IsGcd-from_zero, IsGcd-from_mod}
+use Rattle.fairway.proofs.Fractions.{common_divisor}
 use Rattle.fairway.proofs.euclid.greatest_common_divisor.Goals as goal
 
 pub loop-rest-preserved : goal.loop-rest-preserved
-loop-rest-preserved c =
-    let h : 0 < c.loop-rest.rest = omega arith in
-    gcd_step c.loop-rest.divisor c.loop-rest.rest h ∙ c.loop-rest.invariant
+loop-rest-preserved c g h = c.loop-rest.invariant g (IsGcd-from_mod c.loop-rest.divisor c.loop-rest.rest g h)
 
 pub returns : goal.returns
 returns c =
-    let z : c.loop-rest.rest ≡ 0 = omega arith in
-    common_divisor c.args.a c.args.b c.loop-rest.divisor (sym (gcd_zero c.loop-rest.divisor) ∙ ap (gcd c.loop-rest.divisor) (sym z) ∙ c.loop-rest.invariant)
+    let i = IsGcd-from_zero c.loop-rest.divisor c.loop-rest.rest (omega arith) in
+    common_divisor c.args.a c.args.b c.loop-rest.divisor (c.loop-rest.invariant c.loop-rest.divisor i)

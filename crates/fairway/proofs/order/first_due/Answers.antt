@@ -1,29 +1,21 @@
-use Rattle.std.proofs.Common.{◌-◌, get_or, arith}
+use Rattle.std.proofs.Common.{◌≡◌, ℕ, ◌+◌, ◌<◌, true, false, length, get_or, Some, None, rules}
+use Rattle.std.proofs.iter.runs.Made.{chains}
 use Rattle.fairway.specs.Stamps.{time_of}
-use Rattle.fairway.proofs.Lists.{nobody, NotDue, checked_none, checked_more, all_checked, pair_mid, none_due}
+use Rattle.fairway.specs.Courses.{Decides, Due}
+use Rattle.fairway.proofs.Lists.{nobody, of_window, due_told}
 use Rattle.fairway.proofs.order.first_due.Goals as goal
-
-pub loop-place-init : goal.loop-place-init
-loop-place-init c = checked_none (NotDue (time_of c.args.at)) c.args.courses.now
-
-pub returns-then-is_due : goal.returns-then-is_due
-returns-then-is_due c =
-    let xs = c.args.courses.now in
-    let p = c.loop-place.place in
-    record {
-      rear = get_or xs (p - 1) nobody;
-      front = get_or xs p nobody;
-      there = pair_mid xs p nobody (omega arith) c.loop-place-test.true;
-      due = c.is_due.ensures.0 c.if-is_due.true;
-      first = λ k r f h. c.loop-place.invariant k r f (omega arith);
-    }
-
-pub loop-place-preserved : goal.loop-place-preserved
-loop-place-preserved c =
-    checked_more (NotDue (time_of c.args.at)) c.args.courses.now c.loop-place.place nobody (omega arith) c.loop-place-test.true c.loop-place.invariant
-    (c.is_due.ensures.1 c.if-is_due.false)
 
 pub returns : goal.returns
 returns c =
     let t = time_of c.args.at in
-    none_due t c.args.courses.now (all_checked (NotDue t) c.args.courses.now c.loop-place.place c.loop-place-test.false c.loop-place.invariant)
+    let xs = c.args.courses.now in
+    let none : c.position.result ≡ None → (k : ℕ) → k + 1 < length xs → Decides (Due t (get_or xs k nobody) (get_or xs (k + 1) nobody)) false = search (rules, chains) in
+    let p = c.position.ensures.runs.0 in
+    let w = c.windows.ensures.runs p p.seen (search rules) in
+    let due : (i : ℕ) → c.position.result ≡ Some i → (i + 1 < length xs) × Decides (Due t (get_or xs i nobody) (get_or xs (i + 1) nobody)) true =
+    λ i e. let m = rw e at c.position.ensures.runs.2 in
+    of_window (λ r f. Decides (Due t r f) true) xs _ _ i (p.at i) (search rules) (search rules) (w.2 i) (m.1 (λ a r f k. search rules)).0 (λ x h. search rules) in
+    let before : (i : ℕ) → c.position.result ≡ Some i → (k : ℕ) → k < i → Decides (Due t (get_or xs k nobody) (get_or xs (k + 1) nobody)) false =
+    λ i e k l. let m = rw e at c.position.ensures.runs.2 in
+    (of_window (λ r f. Decides (Due t r f) false) xs _ _ k (p.at k) (search rules) (search rules) (w.2 k) ((m.1 (λ a r f k. search rules)).1 k l) (λ x h. search rules)).1 in
+    due_told t xs c.position.result none due before

@@ -1,21 +1,34 @@
-use Rattle.std.proofs.Common.{suc, ◌+◌, ◌≤◌, length, get_or, refl, arith}
+use Rattle.std.proofs.Common.{◌≡◌, ℕ, ◌+◌, ◌<◌, List, length, get_or, refl, arith, rules}
+use Rattle.std.specs.List.{slice_range}
+use Rattle.std.proofs.lemmas.Grind.{common_steps}
 use Rattle.fairway.specs.Stamps.{time_of}
-use Rattle.fairway.proofs.Lists.{nobody, past_end, not_due_at, exchanged}
+use Rattle.fairway.specs.Courses.{Due}
+use Rattle.fairway.specs.declared.course.Course.{Course}
+use Rattle.fairway.proofs.Lists.{nobody, NotDue, at_pair, exchanged}
 use Rattle.fairway.proofs.order.mend.Goals as goal
 
-pub returns-then-saturating_sub-lt2 : goal.returns-then-saturating_sub-lt2
-returns-then-saturating_sub-lt2 c =
-    let h : length c.args.courses.now ≤ suc c.args.place = omega arith in
-    (refl, past_end (time_of c.args.at) c.args.courses.now c.args.place h)
+-- the first two of what stands from i on
+first_two : (xs rest : List Course) (i : ℕ) → rest ≡ slice_range xs i (length xs) → (get_or xs i nobody ≡ get_or rest 0 nobody) × (get_or xs (i + 1) nobody ≡ get_or rest 1 nobody)
+first_two xs rest i e = (grind (arith, common_steps), grind (arith, common_steps))
+
+pub returns-in_default : goal.returns-in_default
+returns-in_default c =
+    let xs = c.args.courses.now in
+    let i = c.args.place in
+    (refl, λ r f. at_pair (NotDue (time_of c.args.at)) xs i nobody r f (λ h. absurd (search rules)))
 
 pub returns-then-not-is_due : goal.returns-then-not-is_due
 returns-then-not-is_due c =
     let xs = c.args.courses.now in
     let i = c.args.place in
-    (refl, not_due_at (time_of c.args.at) xs i nobody (omega arith) (c.is_due.ensures.1 c.if-not-is_due.true))
+    let p = first_two xs c.unwrap_or.result.now i (grind (arith, common_steps)) in
+    (refl, λ r f. at_pair (NotDue (time_of c.args.at)) xs i nobody r f (λ h. rw (p.0, p.1) (rw c.new.ensures at (c.is_due.ensures.1 c.if-not-is_due.true))))
 
 pub returns : goal.returns
 returns c =
     let xs = c.args.courses.now in
     let i = c.args.place in
-    (get_or xs i nobody, get_or xs (i + 1) nobody, exchanged (time_of c.args.at) xs i nobody (omega arith) (c.is_due.ensures.0 c.if-not-is_due.false))
+    let p = first_two xs c.unwrap_or.result.now i (grind (arith, common_steps)) in
+    let d : Due (time_of c.args.at) (get_or xs i nobody) (get_or xs (i + 1) nobody) = rw (p.0, p.1) (rw c.new.ensures at (c.is_due.ensures.0 c.if-not-is_due.false)) in
+    let l : i + 1 < length xs = search rules in
+    (get_or xs i nobody, get_or xs (i + 1) nobody, exchanged (time_of c.args.at) xs _ i nobody l (search rules) d)

@@ -1,27 +1,20 @@
-use Rattle.std.proofs.Common.{◌-◌, get_or, arith}
+use Rattle.std.proofs.Common.{◌≡◌, ℕ, ◌+◌, ◌<◌, true, false, length, get_or, rules}
+use Rattle.std.proofs.iter.runs.Made.{chains}
 use Rattle.fairway.specs.Stamps.{time_of}
-use Rattle.fairway.specs.Standing.{NotLevelBefore}
+use Rattle.fairway.specs.Pairs.{Past}
 use Rattle.fairway.specs.StampsLemmas.{proper}
-use Rattle.fairway.proofs.Lists.{nobody, checked_none, checked_more, all_checked, at_pair, pair_mid, until_yes, until_no}
+use Rattle.fairway.proofs.Lists.{nobody, of_window, until_told}
 use Rattle.fairway.proofs.order.stands_until.Goals as goal
-
-pub loop-place-init : goal.loop-place-init
-loop-place-init c = checked_none (NotLevelBefore (time_of c.args.at)) c.args.courses.now
-
-pub returns-then-is_past : goal.returns-then-is_past
-returns-then-is_past c =
-    let xs = c.args.courses.now in
-    let p = c.loop-place.place in
-    let t = time_of c.args.at in
-    until_no t xs
-    (λ n. c.is_past.ensures.1 c.if-is_past.true (at_pair (NotLevelBefore t) xs (p - 1) (get_or xs (p - 1) nobody) (get_or xs p nobody) n (pair_mid xs p nobody (omega arith) c.loop-place-test.true)))
-
-pub loop-place-preserved : goal.loop-place-preserved
-loop-place-preserved c =
-    checked_more (NotLevelBefore (time_of c.args.at)) c.args.courses.now c.loop-place.place nobody (omega arith) c.loop-place-test.true c.loop-place.invariant
-    (c.is_past.ensures.0 c.if-is_past.false)
 
 pub returns : goal.returns
 returns c =
     let t = time_of c.args.at in
-    until_yes t (proper c.args.at) c.args.courses.now (all_checked (NotLevelBefore t) c.args.courses.now c.loop-place.place c.loop-place-test.false c.loop-place.invariant)
+    let xs = c.args.courses.now in
+    let none : c.any.result ≡ false → (k : ℕ) → k + 1 < length xs → Past t (get_or xs k nobody) (get_or xs (k + 1) nobody) false = search (rules, chains) in
+    let p = c.any.ensures.runs.0 in
+    let w = c.windows.ensures.runs p p.seen (search rules) in
+    let some : c.any.result ≡ true → (k : ℕ) × (k + 1 < length xs) × Past t (get_or xs k nobody) (get_or xs (k + 1) nobody) true =
+    λ e. let m = (rw e at c.any.ensures.runs.2) (λ a r f k. search rules) in
+    let h = of_window (λ r f. Past t r f true) xs _ _ m.0 (p.at m.0) (search rules) (search rules) (w.2 m.0) m.2 (λ x h. search rules) in
+    (m.0, h.0, h.1) in
+    until_told t (proper c.args.at) xs c.any.result none some

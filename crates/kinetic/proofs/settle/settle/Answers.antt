@@ -1,22 +1,25 @@
-use Rattle.std.proofs.Common.{arith}
+use Rattle.std.proofs.Common.{◌+◌, sym, subst, arith}
 use Rattle.fairway.specs.Stamps.{time_of}
-use Rattle.kinetic.proofs.Settling.{midway_none, midway_more, settled, unsettled}
+use Rattle.kinetic.specs.Structures.{NoneDue}
+use Rattle.kinetic.proofs.Settling.{Midway, midway_more, settled, unsettled}
 use Rattle.kinetic.proofs.settle.settle.Goals as goal
-
-pub loop-mends-init : goal.loop-mends-init
-loop-mends-init g c = midway_none g.S.Structure.means (time_of c.args.at) c.args.structure.now
-
-pub returns-in_default : goal.returns-in_default
-returns-in_default g c =
-    let laws = g.met.S.Structure in
-    settled g.S.Structure.means laws.leads (time_of c.args.at) c.args.structure.now c.loop-mends.structure c.loop-mends.mends c.foremost.result c.foremost.ensures c.loop-mends.invariant c.in_default.ensures
-
-pub loop-mends-preserved : goal.loop-mends-preserved
-loop-mends-preserved g c =
-    midway_more g.S.Structure.means (time_of c.args.at) c.args.structure.now c.loop-mends.structure c.mend.new.self c.loop-mends.mends c.in-Some.number c.mend.result
-    c.loop-mends.invariant c.in-Some.ensures.0 c.mend.ensures
+use Rattle.kinetic.proofs.settle.settle.Goals.{else-loop-test, then-loop-test+in_default, then-loop-test+in-Some+else-counter-end}
 
 pub returns : goal.returns
 returns g c =
-    unsettled g.S.Structure.means (time_of c.args.at) c.args.structure.now c.loop-mends.structure c.loop-mends.mends c.foremost-2.result c.foremost-2.ensures c.loop-mends.invariant
-    (omega (arith, c.load-most.ensures, c.loop-mends-test.false))
+    let m = g.S.Structure.means in
+    let t = time_of c.args.at in
+    let s = c.args.structure.now in
+    let u = c.loop-test.structure in
+    let v = c.foremost.result in
+    let k = c.loop.counter in
+    elim c.loop-test.branch [
+      | else-loop-test w ↦ unsettled m t s u k v c.foremost.ensures (subst (λ z. Midway m t s z k) (sym w.structure-is) c.loop.invariant) (omega (arith, c.load-end.ensures))
+      | then-loop-test+in_default w ↦
+          let laws = g.met.S.Structure in
+          settled m laws.leads t s u k v c.foremost.ensures (subst (λ z. Midway m t s z k) (sym w.structure-is) c.loop.invariant) (subst (λ z. NoneDue m t z) (sym w.structure-is) w.in_default.ensures)
+      | then-loop-test+in-Some+else-counter-end w ↦
+          unsettled m t s u (k + 1) v c.foremost.ensures
+          (subst (λ z. Midway m t s z (k + 1)) (sym w.structure-is) (midway_more m t s c.loop.structure w.mend.new.self k w.in-Some.number w.mend.result c.loop.invariant w.in-Some.ensures.0 w.mend.ensures))
+          (omega (arith, c.load-end.ensures))
+    ]

@@ -1,23 +1,17 @@
-use Rattle.std.proofs.Common.{sym, arith}
+use Rattle.std.proofs.Common.{length, ap, ◌∙◌, rules, tests}
+use Rattle.std.specs.List.{insert}
+use Rattle.std.specs.Option.{unwrap_or}
+use Rattle.std.proofs.lemmas.Iterator.{YieldsList-from_slice}
+use Rattle.std.proofs.lemmas.Iterator.Search.{position_from_yields_List}
+use Rattle.fairway.specs.Behind.{behind}
 use Rattle.fairway.specs.Stamps.{time_of}
-use Rattle.fairway.proofs.Lists.{nobody}
-use Rattle.sorted_list.proofs.Changes.{put_yes, put_no, put_end}
+use Rattle.sorted_list.proofs.Changes.{put_found}
 use Rattle.sorted_list.proofs.places.place_for.Goals as goal
 
-pub returns-then-is_behind : goal.returns-then-is_behind
-returns-then-is_behind c =
-    record {
-      within = omega (arith, c.loop-place-test.true);
-      put = put_yes (time_of c.args.at) c.args.course c.args.courses.now c.loop-place.place nobody c.loop-place-test.true (sym c.if-is_behind.ensures) c.loop-place.invariant;
-    }
-
-pub loop-place-preserved : goal.loop-place-preserved
-loop-place-preserved c =
-    put_no (time_of c.args.at) c.args.course c.args.courses.now c.loop-place.place nobody c.loop-place-test.true (sym c.if-is_behind.ensures) c.loop-place.invariant
-
-pub returns : goal.returns
-returns c =
-    record {
-      within = omega arith;
-      put = put_end (time_of c.args.at) c.args.course c.args.courses.now c.loop-place.place (omega (arith, c.loop-place-test.false, c.loop-place.auto.place-end)) c.loop-place.invariant;
-    }
+pub returns-clause-put : goal.returns-clause-put
+returns-clause-put c =
+    let t = time_of c.args.at in
+    let x = c.args.course in
+    let xs = c.args.courses.now in
+    let e = position_from_yields_List (behind t x) _ _ c.position.result c.position.ensures.ran (YieldsList-from_slice xs cc) (λ y b q k. search (rules, tests)) in
+    ap (λ i. insert xs i x) (c.unwrap_or.ensures ∙ ap (λ o. unwrap_or o (length xs)) e) ∙ put_found t x xs

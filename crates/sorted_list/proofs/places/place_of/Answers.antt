@@ -1,14 +1,14 @@
-use Rattle.fairway.proofs.Lists.{nobody}
-use Rattle.sorted_list.proofs.Changes.{at_yes, at_no, at_end}
+use Rattle.std.proofs.Common.{◌==◌, sym, subst, rules, tests}
+use Rattle.std.proofs.lemmas.Iterator.{YieldsList-from_slice}
+use Rattle.std.proofs.lemmas.Iterator.Search.{position_from_yields_List}
+use Rattle.fairway.specs.declared.course.Course.{Course}
+use Rattle.sorted_list.specs.Rosters.{PlaceOf}
+use Rattle.sorted_list.proofs.Changes.{place_found}
 use Rattle.sorted_list.proofs.places.place_of.Goals as goal
 
-pub returns-then-course-number : goal.returns-then-course-number
-returns-then-course-number c =
-    at_yes c.args.number c.args.courses.now c.loop-place.place nobody c.loop-place-test.true c.if-course-number.true c.loop-place.invariant.0 c.loop-place.invariant.1
-
-pub loop-place-preserved : goal.loop-place-preserved
-loop-place-preserved c =
-    at_no c.args.number c.args.courses.now c.loop-place.place nobody c.loop-place-test.true c.if-course-number.false c.loop-place.invariant.0 c.loop-place.invariant.1
-
 pub returns : goal.returns
-returns c = at_end c.args.number c.args.courses.now c.loop-place.place c.loop-place-test.false c.loop-place.invariant.0
+returns c =
+    let n = c.args.number in
+    let xs = c.args.courses.now in
+    let e = position_from_yields_List (λ (x : Course). x.number == n) _ _ c.position.result c.position.ensures.ran (YieldsList-from_slice xs cc) (λ x b q k. search (rules, tests)) in
+    subst (PlaceOf xs n) (sym e) (place_found n xs)

@@ -1,12 +1,15 @@
-use Rattle.std.proofs.Common.{◌<◌, length, refl, arith, rules}
-use Rattle.std.proofs.lemmas.List.{take_more_set}
+use Rattle.std.proofs.Common.{◌+◌, ◌-◌, replicate, drop, sym, ap, ◌∙◌, arith}
+use Rattle.std.proofs.lemmas.List.{drop-drop, drop-replicate, drop-set-lt, length-set}
 use Rattle.kinetic.proofs.numbers.Numbers.push.Goals as goal
 
-pub returns : goal.returns
-returns c =
-    let l : c.args.self.now.count < length c.args.self.now.numbers = search rules in
+-- one zero less
+pub invariant_of-self : goal.invariant_of-self
+invariant_of-self c =
+    let k = c.self.inside.count in
+    let ns = c.self.inside.numbers in
+    let h = c.self.invariant in
     record {
-      count = λ h. refl;
-      value = λ h. take_more_set c.args.self.now.numbers c.args.self.now.count c.args.number l;
-      full = λ h. absurd (omega arith);
+      few = omega arith;
+      long = length-set ns k c.args.number ∙ h.long;
+      zeros = drop-set-lt (k + 1) ns k c.args.number (omega arith) ∙ sym (drop-drop 1 k ns) ∙ ap (drop 1) h.zeros ∙ drop-replicate 1 (64 - k) 0 ∙ ap (λ n. replicate n 0) (omega arith);
     }

@@ -1,6 +1,0 @@
-use Rattle.std.proofs.Common.{◌≡◌, ◌≤◌, take}
-use Rattle.fairway.specs.Orders.{slower_than}
-use Rattle.fairway.proofs.order.count_slower.Given as goal
-
-abbrev pub invariant-loop-front : goal.invariant-loop-front
-invariant-loop-front l = (l.count ≡ slower_than l.rear (take l.front-index l.courses)) × (l.count ≤ l.front-index)

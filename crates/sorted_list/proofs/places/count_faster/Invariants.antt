@@ -1,6 +1,0 @@
-use Rattle.std.proofs.Common.{◌≡◌, ◌≤◌, take}
-use Rattle.sorted_list.specs.Loads.{faster_than}
-use Rattle.sorted_list.proofs.places.count_faster.Given as goal
-
-abbrev pub invariant-loop-rear : goal.invariant-loop-rear
-invariant-loop-rear l = (l.count ≡ faster_than l.front (take l.rear-index l.courses)) × (l.count ≤ l.rear-index)
