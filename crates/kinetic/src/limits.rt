@@ -1,8 +1,9 @@
 ghost use Rattle.std.specs.Prelude.{◌≡◌, ℕ, ◌<◌, true, false};
 ghost use Rattle.fairway.specs.Courses.{InRange, Due};
 ghost use Rattle.fairway.specs.Stamps.{time_of};
-ghost use Rattle.kinetic.specs.Limits.{out_of_range, due};
+ghost use Rattle.kinetic.specs.Limits.{out_of_range, due, Checked};
 
+use crate::refusal::Refusal;
 use fairway::course::Course;
 use fairway::pair::Pair;
 use fairway::stamp::Stamp;
@@ -19,6 +20,19 @@ pub fn is_out_of_range(course: Course) -> bool
         ..course
     };
     !numbered.is_in_range()
+}
+
+// Refuses a course that has no number, or is out of range: the first lines of the tables of enter and steer.
+pub fn check(course: Course) -> Result<(), Refusal>
+    ensures { Checked course result }
+{
+    if course.number == 0 {
+        return Err(Refusal::NumberZero);
+    }
+    if is_out_of_range(course) {
+        return Err(Refusal::OutOfRange);
+    }
+    Ok(())
 }
 
 // Whether a certificate, if there is one, is due: the two are level, and the rear is faster.

@@ -1,22 +1,12 @@
 -- What a list of courses, from rear to front, means as a kinetic structure.
-use Rattle.std.specs.Prelude.{◌≡◌, ◌≢◌, false, List, [], ◌∷◌, length, Some, Ok, Err, Result, nat_eq}
-use Rattle.event_queue.specs.Refusals.{◌when◌, topmost}
-use Rattle.fairway.specs.Courses.{InRange}
+use Rattle.std.specs.Prelude.{List, length}
 use Rattle.fairway.specs.Rosters.{course_of}
-use Rattle.kinetic.specs.Limits.{out_of_range}
-use Rattle.kinetic.specs.declared.refusal.Refusal.{Refusal}
-use Rattle.kinetic.specs.declared.refusal.Refusal.TheVariants.{NumberZero, OutOfRange}
 use Rattle.fairway.specs.Orders.{load, Exchange}
 use Rattle.fairway.specs.Standing.{Stands}
 use Rattle.fairway.specs.declared.course.Course.{Course}
 use Rattle.kinetic.specs.Structures.{Meaning}
 use Rattle.sorted_list.specs.Rosters.{last_number}
 use Rattle.fairway.specs.Lists.{pair_at}
-
--- a number and a range that an entry may have, or the refusal of it
-abbrev pub Checked : Course → Result (Unit {0}) Refusal → Type 0
-Checked c (Ok x) = (c.number ≢ 0) × (out_of_range c ≡ false) × InRange c
-Checked c (Err e) = topmost (NumberZero when nat_eq c.number 0 ∷ OutOfRange when out_of_range c ∷ []) ≡ Some e
 
 -- It stands where every two, neighbours or not, are in order or due: neighbours alone would not do. A mend
 -- exchanges the two.

@@ -1,4 +1,4 @@
-ghost use Rattle.sorted_list.specs.Means.{Checked, list_meaning};
+ghost use Rattle.sorted_list.specs.Means.{list_meaning};
 ghost use Rattle.sorted_list.specs.Laws;
 ghost use Rattle.sorted_list.specs.Laws.{rests_sorted, front, lasts};
 ghost use Rattle.sorted_list.specs.ListStructureLemmas.{few};
@@ -9,23 +9,10 @@ use crate::places::{numbers_from, place_of};
 use fairway::course::Course;
 use fairway::pair::Pair;
 use fairway::stamp::Stamp;
-use kinetic::limits::{is_certificate_due, is_out_of_range};
+use kinetic::limits::{check, is_certificate_due};
 use kinetic::numbers::Numbers;
 use kinetic::refusal::Refusal;
 use kinetic::structure::Structure;
-
-// Refuses a course that has no number, or is out of range.
-fn check(course: Course) -> Result<(), Refusal>
-    ensures { Checked course result }
-{
-    if course.number == 0 {
-        return Err(Refusal::NumberZero);
-    }
-    if is_out_of_range(course) {
-        return Err(Refusal::OutOfRange);
-    }
-    Ok(())
-}
 
 // The sorted list as a kinetic structure: the certificate of a number is of the vessel at that place and
 // the next, and a mend exchanges the two.

@@ -1,0 +1,9 @@
+pub mod Paths
+pub mod Taken
+pub mod Beneath
+pub mod Again
+pub mod Empty
+pub mod Falls
+pub mod Mending
+pub mod Calls
+pub mod Blocks

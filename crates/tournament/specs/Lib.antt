@@ -1,0 +1,10 @@
+pub mod Places
+pub mod Matches
+pub mod Standing
+pub mod Loads
+pub mod Playing
+pub mod Means
+pub mod Questions
+pub mod NodesLemmas
+pub mod LoadsLemmas
+pub mod Laws
