@@ -6,6 +6,10 @@ use Rattle.binary_heap.specs.declared.cell.Cell.{Cell}
 abbrev pub cell_key : {K : Type 0} → Cell K → Option K
 cell_key c = c.key
 
+-- the same cell with no key: its slot and its ticket are as they were
+abbrev pub cell_cleared : {K : Type 0} → Cell K → Cell K
+cell_cleared c = record { key = None; slot = c.slot; ticket = c.ticket }
+
 -- By ticket number, the key that it holds and the slot in which it stands; by slot, the ticket there.
 pub record Columns (K : Type 0) : Type 0 where
   pub key : List (Option K)

@@ -1,4 +1,5 @@
-ghost use Rattle.binary_heap.specs.Slots.{cell_key};
+ghost use Rattle.std.specs.Prelude.{refl};
+ghost use Rattle.binary_heap.specs.Slots.{cell_key, cell_cleared};
 
 use event_queue::cells::KeyCell;
 use event_queue::key::Key;
@@ -17,6 +18,10 @@ impl<K: Key> KeyCell for Cell<K> {
     type Key = K;
 
     ghost holds = { cell_key };
+
+    ghost cleared = { cell_cleared };
+
+    ghost empties = { λ cell. refl };
 
     fn key(&self) -> Option<K> {
         self.key

@@ -1,5 +1,5 @@
 -- The keys in the cells of a queue, through a read, and through a change of one of them.
-use Rattle.std.proofs.Common.{◌≡◌, ℕ, ◌<◌, min, ◌≢◌, List, map, length, get_or, set, take, Some, None, Ok, Err, Option, Result, sym, ap, ◌∙◌, ⊎_elim, arith}
+use Rattle.std.proofs.Common.{◌≡◌, ℕ, zero, suc, ◌<◌, min, ◌≢◌, List, [], ◌∷◌, map, length, get_or, set, take, Some, None, Ok, Err, Option, Result, refl, sym, ap, ◌∙◌, ⊎_elim, arith}
 use Rattle.std.specs.Result.{result_ok}
 use Rattle.std.proofs.lemmas.Bool.{cases_lt}
 use Rattle.std.proofs.lemmas.List.{get_or-map, get_or-set_same, get_or-set_other, get_or-take, length-map, length-set}
@@ -48,3 +48,10 @@ module _ {C K : Type 0} (key : C → Option K) where
     pub held_answers : (n : ℕ) (k : K) (r : Result (Option K) Refusal) → HeldBelow (min (length xs) 64) (key_in key (take 64 xs)) n r → key_in key (take 64 xs) n ≡ Some k → result_ok r ≡ Some (Some k)
     held_answers n k (Ok answer) h e = ap Some (h.1 ∙ e)
     held_answers n k (Err refusal) h e = absurd (omega (arith, past_refused NoSuchTicket refusal _ n h, held_64 n k e))
+
+-- of cells that are cleared, none holds a key
+module _ {C K : Type 0} (key : C → Option K) (cleared : C → C) (empties : (cell : C) → key (cleared cell) ≡ None) where
+  pub cleared_none : (cells : List C) (i : ℕ) → key_in key (map cleared cells) i ≡ None
+  cleared_none [] i = refl
+  cleared_none (cell ∷ more) zero = empties cell
+  cleared_none (cell ∷ more) (suc i) = cleared_none more i

@@ -1,4 +1,4 @@
-ghost use Rattle.std.specs.Prelude.{◌≡◌, ℕ, min, length, take, drop, None, Option};
+ghost use Rattle.std.specs.Prelude.{◌≡◌, ℕ, min, map, length, take, drop, None, Option};
 ghost use Rattle.event_queue.specs.Queues.{HeldBelow};
 ghost use Rattle.event_queue.specs.Cells.{key_in};
 
@@ -11,13 +11,19 @@ pub trait KeyCell: Copy {
 
     ghost holds: { Self → Option Self.Key };
 
+    // The same cell with no key in it.
+    ghost cleared: { Self → Self };
+
     // The key in the cell, or none.
     fn key(&self) -> Option<Self::Key>
         ensures { result ≡ holds self.now };
 
-    // Takes the key out of the cell.
+    // Takes the key out of the cell, which becomes what `cleared` says.
     fn clear(&mut self)
-        ensures { holds self.new ≡ None };
+        ensures { self.new ≡ cleared self.old };
+
+    // a cleared cell holds no key
+    ghost empties: { (cell : Self) → holds (cleared cell) ≡ None };
 }
 
 // How many cells a queue uses: the first 64, or all if they are fewer.
@@ -39,8 +45,9 @@ pub fn held<C: KeyCell>(cells: &[C], ticket: usize) -> Result<Option<C::Key>, Re
 }
 
 // Takes the key out of every cell.
+#[tactic(auto, using(crate::proofs::Columns::over_more, crate::proofs::Columns::over_all))]
 fn clear<C: KeyCell>(cells: &mut [C])
-    ensures { (i : ℕ) → key_in C.holds cells.new i ≡ None }
+    ensures { cells.new ≡ map C.cleared cells.old }
 {
     for cell in cells.iter_mut() {
         cell.clear();
@@ -50,6 +57,7 @@ fn clear<C: KeyCell>(cells: &mut [C])
 // The same in the first 64 cells. That the others stay is said of this call and of each that writes to the first
 // 64: it is about two states of memory that the caller keeps, which no type of ours holds.
 pub fn clear_front<C: KeyCell>(cells: &mut [C])
+    ensures cleared { take 64 cells.new ≡ map C.cleared (take 64 cells.old) }
     ensures empty { (i : ℕ) → key_in C.holds (take 64 cells.new) i ≡ None }
     ensures past { drop 64 cells.new ≡ drop 64 cells.old }
 {

@@ -7,6 +7,10 @@ use Rattle.pairing_heap.specs.declared.node.Node.{Node}
 abbrev pub node_key : {K : Type 0} → Node K → Option K
 node_key c = c.key
 
+-- the same cell with no key: its links are as they were
+abbrev pub node_cleared : {K : Type 0} → Node K → Node K
+node_cleared c = record { key = None; child = c.child; next = c.next; back = c.back }
+
 -- By ticket number, the key that it holds, its first child, its next sibling, and what stands before it.
 pub record Columns (K : Type 0) : Type 0 where
   pub key : List (Option K)

@@ -1,4 +1,5 @@
-ghost use Rattle.pairing_heap.specs.Links.{node_key};
+ghost use Rattle.std.specs.Prelude.{refl};
+ghost use Rattle.pairing_heap.specs.Links.{node_key, node_cleared};
 
 use event_queue::cells::KeyCell;
 use event_queue::key::Key;
@@ -19,6 +20,10 @@ impl<K: Key> KeyCell for Node<K> {
     type Key = K;
 
     ghost holds = { node_key };
+
+    ghost cleared = { node_cleared };
+
+    ghost empties = { λ cell. refl };
 
     fn key(&self) -> Option<K> {
         self.key

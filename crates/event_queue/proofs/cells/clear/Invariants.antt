@@ -1,6 +1,5 @@
-use Rattle.std.proofs.Common.{◌≡◌, ℕ, ◌<◌, None}
-use Rattle.event_queue.specs.Cells.{key_in}
+use Rattle.std.proofs.Common.{◌≡◌, ◌++◌, map, take, drop}
 use Rattle.event_queue.proofs.cells.clear.Given as goal
 
 abbrev pub invariant-loop-cell : goal.invariant-loop-cell
-invariant-loop-cell g l = (i : ℕ) → i < l.cell-index → key_in g.C.KeyCell.holds l.cells i ≡ None
+invariant-loop-cell g l = l.cells ≡ map g.C.KeyCell.cleared (take l.cell-index l.initial.cells) ++ drop l.cell-index l.initial.cells
