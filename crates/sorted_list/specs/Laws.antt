@@ -1,7 +1,6 @@
 -- The laws of a kinetic structure, for lists of courses.
-use Rattle.std.specs.Prelude.{◌≡◌, ℕ, ◌<◌, ◌≤◌, true, ◌≢◌, List, [], ◌∷◌, length, is_some, Some, ◌==◌, refl}
+use Rattle.std.specs.Prelude.{◌≡◌, ℕ, ◌<◌, ◌≤◌, true, List, [], ◌∷◌, length, Some, refl}
 use Rattle.std.proofs.Common.{sym, ap, subst, ◌∙◌, ⊎_elim, arith}
-use Rattle.std.proofs.lemmas.Bool.{cond-true, cond-false, eq-eqb, ne_eqb}
 use Rattle.fairway.specs.Times.{Time, Proper, ◌≤ᵗ◌}
 use Rattle.fairway.specs.Courses.{Due}
 use Rattle.fairway.specs.Orders.{Sorted}
@@ -10,11 +9,11 @@ use Rattle.fairway.specs.declared.course.Course.{Course}
 use Rattle.fairway.proofs.Sorting.{held}
 use Rattle.fairway.proofs.Standings.{near, stands_sorted, stands_later, sorted_stands, sorted_none_due}
 use Rattle.fairway.specs.Rosters.{course_of}
-use Rattle.fairway.proofs.Rosters.{absent, found, of_found}
+use Rattle.fairway.proofs.Rosters.{found, of_found}
 use Rattle.kinetic.specs.Structures.{Aboard, Front, vessels}
-use Rattle.kinetic.proofs.Counts.{vessels_none, vessels_more}
+use Rattle.kinetic.proofs.Counts.{vessels_listed}
 use Rattle.sorted_list.specs.Rosters.{last_number, last_of, well}
-use Rattle.sorted_list.specs.RostersLemmas.{Fits, cert_near, near_cert, cert_holds, holds_last, behind_last, well_ranged, well_apart, well_rest}
+use Rattle.sorted_list.specs.RostersLemmas.{Fits, cert_near, near_cert, cert_holds, holds_last, behind_last, well_ranged, well_apart}
 use Rattle.fairway.specs.Lists.{pair_at}
 use Rattle.fairway.specs.Orders.{pair}
 
@@ -59,17 +58,5 @@ front t (x ∷ xs) w s =
           ⊎_elim (λ q. absurd (ne (sym k.1 ∙ ap (λ z. z.number) q))) (λ b. b) (behind_last t x xs s d k.0)),
     )
 
--- ---- the count
-first_there : (x : Course) (xs : List Course) → is_some (course_of (x ∷ xs) x.number) ≡ true
-first_there x xs = ap is_some (cond-true (x.number == x.number) (Some x) (course_of xs x.number) (eq-eqb x.number x.number refl))
-
-first_else : (x : Course) (xs : List Course) (n : ℕ) → (n ≢ x.number) → course_of (x ∷ xs) n ≡ course_of xs n
-first_else x xs n o = cond-false (x.number == n) (Some x) (course_of xs n) (ne_eqb x.number n (λ q. o (sym q)))
-
 pub counted : (xs : List Course) → well xs ≡ true → length xs ≡ vessels (course_of xs)
-counted [] w = sym (vessels_none (course_of []) (λ n. refl))
-counted (x ∷ xs) w =
-    let a = well_apart (x ∷ xs) w in
-    let f = well_ranged (x ∷ xs) w in
-    let ih = counted xs (well_rest x xs w) in
-    omega (arith, ih, vessels_more (course_of xs) (course_of (x ∷ xs)) x.number f.0.number (absent x.number xs a.0) (first_there x xs) (first_else x xs))
+counted xs w = vessels_listed {P = Fits} (λ c f. f.number) xs (well_apart xs w) (well_ranged xs w)

@@ -48,9 +48,6 @@ pub well_apart : (xs : List Course) → well xs ≡ true → Apart xs
 well_apart [] e = tt
 well_apart (x ∷ xs) e = (fresh_all x.number xs (grind arith), well_apart xs (grind arith))
 
-pub well_rest : (x : Course) (xs : List Course) → well (x ∷ xs) ≡ true → well xs ≡ true
-well_rest x xs e = grind arith
-
 pub to_well : (xs : List Course) → AllByRecursion Fits xs → Apart xs → well xs ≡ true
 to_well [] r a = refl
 to_well (x ∷ xs) r a =

@@ -1,7 +1,7 @@
 -- The laws of a kinetic structure, for the nodes of a tournament.
-use Rattle.std.proofs.Common.{◌≡◌, ℕ, ◌+◌, ◌*◌, ◌<◌, ◌≤◌, Bool, true, false, ◌≢◌, ◌⊎◌, List, [], ◌∷◌, length, drop, is_some, Some, None, Option, sym, refl, ap, ◌∙◌, subst, inl, inr, ⊎_elim, eqb, arith}
+use Rattle.std.proofs.Common.{◌≡◌, ℕ, ◌+◌, ◌*◌, ◌<◌, ◌≤◌, Bool, true, false, ◌⊎◌, List, length, drop, Some, None, Option, sym, refl, ap, ◌∙◌, subst, inl, inr, ⊎_elim, arith}
 use Rattle.std.proofs.lemmas.List.{length-drop, get_or_past}
-use Rattle.std.proofs.lemmas.Bool.{cases_lt, cond-true, cond-false, eq-eqb, ne_eqb}
+use Rattle.std.proofs.lemmas.Bool.{cases_lt}
 use Rattle.event_queue.proofs.Options.{none_some, some_same}
 use Rattle.fairway.specs.Times.{Time, Proper, ◌≤ᵗ◌}
 use Rattle.fairway.specs.Behind.{behind}
@@ -9,11 +9,11 @@ use Rattle.fairway.specs.Orders.{pair}
 use Rattle.fairway.specs.Rosters.{course_of}
 use Rattle.fairway.specs.Standing.{NotLevelBefore}
 use Rattle.fairway.specs.declared.course.Course.{Course}
-use Rattle.fairway.proofs.Rosters.{found, of_found, absent}
+use Rattle.fairway.proofs.Rosters.{found, of_found}
 use Rattle.fairway.proofs.Sorting.{held}
 use Rattle.fairway.proofs.Standings.{pair_lasts}
 use Rattle.kinetic.specs.Structures.{Aboard, Front, vessels}
-use Rattle.kinetic.proofs.Counts.{vessels_none, vessels_more}
+use Rattle.kinetic.proofs.Counts.{vessels_listed}
 use Rattle.tournament.specs.Places.{Sound, Fits}
 use Rattle.tournament.specs.Matches.{aboard, node_at, certificate_of, certificate_at, won_by_second, AllDrawn}
 use Rattle.tournament.specs.Standing.{Each, StandsAt, NoneDueAt}
@@ -86,18 +86,5 @@ module _ (ns : List (Option Course)) where
     pub front : (t : Time) → StandsAt t ns → NoneDueAt t ns → Front t (course_of (aboard ns)) (number_of (node_at ns 0))
     front t s n = front_of t (in_order t s n) (node_at ns 0) refl
 
--- ---- the count
-first_there : (x : Course) (xs : List Course) → is_some (course_of (x ∷ xs) x.number) ≡ true
-first_there x xs = ap is_some (cond-true (eqb x.number x.number) (Some x) (course_of xs x.number) (eq-eqb x.number x.number refl))
-
-first_else : (x : Course) (xs : List Course) (n : ℕ) → (n ≢ x.number) → course_of (x ∷ xs) n ≡ course_of xs n
-first_else x xs n o = cond-false (eqb x.number n) (Some x) (course_of xs n) (ne_eqb x.number n (λ q. o (sym q)))
-
-counted_list : (xs : List Course) → Sound xs → length xs ≡ vessels (course_of xs)
-counted_list [] s = sym (vessels_none (course_of []) (λ n. refl))
-counted_list (x ∷ xs) s =
-    let ih = counted_list xs (record { apart = s.apart.1; fit = s.fit.1 }) in
-    omega (arith, ih, vessels_more (course_of xs) (course_of (x ∷ xs)) x.number s.fit.0.fits (absent x.number xs s.apart.0) (first_there x xs) (first_else x xs))
-
 pub counted : (ns : List (Option Course)) → Sound (aboard ns) → length (aboard ns) ≡ vessels (course_of (aboard ns))
-counted ns s = counted_list (aboard ns) s
+counted ns s = vessels_listed {P = Fits} (λ c f. f.fits) (aboard ns) s.apart s.fit
