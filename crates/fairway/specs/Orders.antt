@@ -55,6 +55,10 @@ load xs = count_by (λ p. faster p.rear p.front) (pairs xs)
 abbrev pub slower_than : Course → List Course → ℕ
 slower_than x xs = count_by (faster x) xs
 
+-- how many of xs are faster than x
+abbrev pub faster_than : Course → List Course → ℕ
+faster_than x xs = count_by (λ y. faster y x) xs
+
 -- an advance from t to u turns a pair when the one behind at t is in front at u
 abbrev pub turns : Time → Time → Pair → Bool
 turns t u p = behind t p.rear p.front && behind u p.front p.rear

@@ -1,10 +1,10 @@
 ghost use Rattle.std.specs.Prelude.{◌≡◌, ℕ, ◌+◌, ◌<◌, ◌≤◌, true, false, length};
 ghost use Rattle.std.specs.List.{insert};
 ghost use Rattle.fairway.specs.Stamps.{time_of};
-ghost use Rattle.fairway.specs.Orders.{put};
+ghost use Rattle.fairway.specs.Orders.{put, faster_than};
 ghost use Rattle.kinetic.specs.Numbers.{among};
 ghost use Rattle.sorted_list.specs.Rosters.{PlaceOf};
-ghost use Rattle.sorted_list.specs.Loads.{faster_than, crossed};
+ghost use Rattle.sorted_list.specs.Loads.{crossed};
 ghost use Rattle.sorted_list.specs.Ranks.{in_front};
 
 use fairway::course::Course;

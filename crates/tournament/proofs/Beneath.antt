@@ -3,10 +3,11 @@ use Rattle.std.proofs.Common.{◌≡◌, ℕ, zero, suc, ◌+◌, ◌*◌, ◌<�
 use Rattle.std.proofs.lemmas.Bool.{cases_lt, cond-true, cond-false, lt-ltb, le-ltb}
 use Rattle.std.proofs.lemmas.List.Sums.{sum_by-append, count_by-le-length}
 use Rattle.fairway.specs.Courses.{faster}
+use Rattle.fairway.specs.Orders.{faster_than}
 use Rattle.fairway.specs.declared.course.Course.{Course}
 use Rattle.tournament.specs.Places.{taken}
 use Rattle.tournament.specs.Matches.{node_at}
-use Rattle.tournament.specs.Loads.{beneath, faster_than, faster_than_winner, faster_beneath, match_load}
+use Rattle.tournament.specs.Loads.{beneath, faster_than_winner, faster_beneath, match_load}
 use Rattle.tournament.specs.NodesLemmas.{reach, below}
 use Rattle.tournament.specs.LoadsLemmas.{wide, beneath_wide}
 

@@ -9,7 +9,7 @@ use Rattle.event_queue.proofs.Options.{none_some, some_same}
 use Rattle.fairway.specs.Times.{Time}
 use Rattle.fairway.specs.Courses.{place, faster, Due}
 use Rattle.fairway.specs.Behind.{behind}
-use Rattle.fairway.specs.Orders.{Holds, pair}
+use Rattle.fairway.specs.Orders.{Holds, pair, faster_than}
 use Rattle.fairway.specs.Standing.{InOrderOrDue}
 use Rattle.fairway.specs.declared.course.Course.{Course}
 use Rattle.fairway.specs.declared.pair.Pair.{Pair}
@@ -18,7 +18,7 @@ use Rattle.kinetic.specs.Numbers.{among}
 use Rattle.tournament.specs.Places.{taken}
 use Rattle.tournament.specs.Matches.{node_at, second_wins, winner, certificate_of, certificate_at, won_by_second, AllDrawn}
 use Rattle.tournament.specs.Standing.{StandsAt}
-use Rattle.tournament.specs.Loads.{beneath, faster_than, faster_than_winner, match_load, load}
+use Rattle.tournament.specs.Loads.{beneath, faster_than_winner, match_load, load}
 use Rattle.tournament.specs.Playing.{PlayedAbove}
 use Rattle.tournament.specs.NodesLemmas.{reach, below, at_place, descend_beneath}
 use Rattle.tournament.specs.LoadsLemmas.{sum_le}

@@ -1,7 +1,7 @@
 -- The load of a tournament: over all matches, the vessels drawn beneath that are faster than the winner.
-use Rattle.std.specs.Prelude.{◌≡◌, ℕ, zero, suc, ◌+◌, ◌*◌, cond, List, [], ◌∷◌, ◌++◌, Some, None, Option, length, nat_lt, count_by, sum_by}
+use Rattle.std.specs.Prelude.{◌≡◌, ℕ, zero, suc, ◌+◌, ◌*◌, cond, List, [], ◌∷◌, ◌++◌, Some, None, Option, length, nat_lt, sum_by}
 use Rattle.std.specs.List.{range_with_len}
-use Rattle.fairway.specs.Courses.{faster}
+use Rattle.fairway.specs.Orders.{faster_than}
 use Rattle.fairway.specs.declared.course.Course.{Course}
 use Rattle.tournament.specs.Places.{taken}
 use Rattle.tournament.specs.Matches.{aboard, node_at}
@@ -14,10 +14,6 @@ beneath (suc rounds) nodes k = cond (nat_lt k 63) (beneath rounds nodes (2 * k +
 -- beneath the final are all vessels
 abbrev pub AllBeneath : Type 0
 AllBeneath = (nodes : List (Option Course)) → length nodes ≡ 127 → beneath 6 nodes 0 ≡ aboard nodes
-
--- how many are faster than a course
-abbrev pub faster_than : Course → List Course → ℕ
-faster_than w vs = count_by (λ v. faster v w) vs
 
 -- how many are faster than a winner, if there is one
 abbrev pub faster_than_winner : Option Course → List Course → ℕ
