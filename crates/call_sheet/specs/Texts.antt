@@ -10,6 +10,7 @@ use Rattle.call_sheet.specs.declared.refusal.Refusal.TheVariants.{NoSuchLine}
 abbrev pub refused_text : ℕ → Refusal → List ℕ
 refused_text line NoSuchLine = codes "refused " ++ (decimal (refusal_number NoSuchLine) ++ (codes ": line " ++ (decimal line ++ codes " is not below the capacity")))
 
+-- an event: which call it was, and what the call answered
 abbrev pub event_text : Event → List ℕ
 event_text (OnAwait line second (Ok _)) = codes "line " ++ (decimal line ++ (codes " awaited at " ++ decimal second))
 event_text (OnAwait line second (Err e)) = refused_text line e

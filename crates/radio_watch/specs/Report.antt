@@ -4,9 +4,11 @@ use Rattle.call_sheet.specs.Texts.{event_text}
 use Rattle.radio_watch.specs.declared.entry.Unreadable.{Unreadable}
 use Rattle.radio_watch.specs.Journal.{Entry}
 
+-- a line of the script that cannot be read, by its number
 abbrev pub unreadable_text : Unreadable → List ℕ
 unreadable_text line = codes "script line " ++ (decimal line.number ++ codes " cannot be read")
 
+-- an entry: an event, or a line that cannot be read
 abbrev pub entry_text : Entry → List ℕ
 entry_text (Ok event) = event_text event
 entry_text (Err unreadable) = unreadable_text unreadable

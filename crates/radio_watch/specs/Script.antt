@@ -76,6 +76,7 @@ of_two name a = cond (same_bytes name (codes "heard")) (one_number Heard (number
 abbrev pub of_three : List ℕ → List ℕ → List ℕ → Asked
 of_three name a b = cond (same_bytes name (codes "await")) (two_numbers Await (number a) (number b)) (Err record {})
 
+-- what a line with a name says: the call that its words ask for, or that it cannot be read
 abbrev pub asking : Asked → Reading
 asking (Ok call) = Ok (Some call)
 asking (Err unknown) = Err unknown

@@ -15,5 +15,6 @@ Each nodes P = (i : ℕ) (rear front : Course) → certificate_at nodes i ≡ So
 abbrev pub StandsAt : Time → List (Option Course) → Type 0
 StandsAt t nodes = Each nodes (InOrderOrDue t)
 
+-- no certificate is due
 abbrev pub NoneDueAt : Time → List (Option Course) → Type 0
 NoneDueAt t nodes = Each nodes (λ rear front. Due t rear front → ⊥)
