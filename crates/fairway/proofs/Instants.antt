@@ -10,11 +10,12 @@ use Rattle.std.specs.declared.cmp.Ordering.TheVariants.{Less, Equal, Greater}
 use Rattle.fairway.specs.Times.{ratio, whole_and, ◌=ᵗ◌, ◌<ᵗ◌}
 use Rattle.fairway.specs.Fractions.{CommonDivisor, Coprime, Reduced}
 use Rattle.fairway.specs.Courses.{Decides}
-use Rattle.fairway.specs.Stamps.{time_of, BelowOne}
+use Rattle.fairway.specs.Stamps.{time_of, den, BelowOne}
 use Rattle.fairway.specs.StampsLemmas.{crossed, crossed_lt}
 use Rattle.fairway.specs.InstantsLemmas.{total}
 use Rattle.fairway.specs.Instants.{time_order, value, stamp_of, instant_refusal, SameNumbers, SameInstant}
 use Rattle.fairway.specs.declared.instant.Instant.{Instant}
+use Rattle.fairway.specs.declared.stamp.Stamp.{Stamp}
 use Rattle.fairway.proofs.Fractions.{lowers, one_form}
 
 -- ---- n / d in lowest terms, by a common divisor g
@@ -54,11 +55,11 @@ pub accepted : (s n d : ℕ) → 0 < d → d ≤ 1000 → n < d → s ≤ 167772
 accepted s n d p q h b l = grind (arith, nat_tests)
 
 -- ---- a value has one instant
-reduced : (i : Instant) → Reduced (value i)
-reduced i k h e =
-    let p : k ∣ (i.seconds * i.denominator + i.numerator) % i.denominator = (dvd-mod_iff k e).1 h in
-    let b : i.numerator < i.denominator = i.below in
-    i.lowest k (subst (λ x. k ∣ x) (mul-add-mod_self_right i.seconds i.denominator i.numerator ∙ mod-eq_of_lt b) p) e
+-- whole seconds and a fraction in lowest terms make one fraction in lowest terms
+reduced_whole : (s n d : ℕ) → n < d → Coprime n d → Reduced (whole_and s n d)
+reduced_whole s n d b l k h e =
+    let p : k ∣ (s * d + n) % d = (dvd-mod_iff k e).1 h in
+    l k (subst (λ x. k ∣ x) (mul-add-mod_self_right s d n ∙ mod-eq_of_lt b) p) e
 
 parts : (s n t m d : ℕ) → n < d → m < d → s * d + n ≡ t * d + m → (s ≡ t) × (n ≡ m)
 parts s n t m d h k e =
@@ -69,16 +70,26 @@ parts s n t m d h k e =
     (λ (l : t < s). absurd (omega (arith, mul-le-mul_right {m = t + 1} {n = s} d (omega arith), add-mul t 1 d))))
     (cases_order s t)
 
+-- of two that are equal the three numbers are
+one_whole : (s n d t m e : ℕ) → n < d → m < e → Coprime n d → Coprime m e → whole_and s n d =ᵗ whole_and t m e → (s ≡ t) × (n ≡ m) × (d ≡ e)
+one_whole s n d t m e p q cn cm eq =
+    let f = one_form (whole_and s n d) (whole_and t m e) (omega arith) (omega arith) (reduced_whole s n d p cn) (reduced_whole t m e q cm) eq in
+    let de : d ≡ e = ap (λ t. t.den) f in
+    let k : s * d + n ≡ t * e + m = ap (λ t. t.num) f in
+    let r = parts s n t m d p (omega arith) (k ∙ ap (λ x. t * x + m) (sym de)) in
+    (r.0, r.1, de)
+
 pub one_instant : (a b : Instant) → value a =ᵗ value b → SameNumbers a b
-one_instant a b e =
-    let p : a.numerator < a.denominator = a.below in
-    let q : b.numerator < b.denominator = b.below in
-    let t = one_form (value a) (value b) (omega arith) (omega arith) (reduced a) (reduced b) e in
-    let d : a.denominator ≡ b.denominator = ap (λ t. t.den) t in
-    let n : a.seconds * a.denominator + a.numerator ≡ b.seconds * b.denominator + b.numerator = ap (λ t. t.num) t in
-    let m : a.seconds * a.denominator + a.numerator ≡ b.seconds * a.denominator + b.numerator = n ∙ ap (λ x. b.seconds * x + b.numerator) (sym d) in
-    let r = parts a.seconds a.numerator b.seconds b.numerator a.denominator p (omega arith) m in
-    (r.0, r.1, d)
+one_instant a b e = one_whole a.seconds a.numerator a.denominator b.seconds b.numerator b.denominator a.below b.below a.lowest b.lowest e
+
+-- the same of stamps
+pub one_stamp : (a b : Stamp) → BelowOne a → BelowOne b → Coprime a.numerator (den a) → Coprime b.numerator (den b) → time_of a =ᵗ time_of b → a ≡ b
+one_stamp a b p q ca cb e =
+    let r = one_whole a.seconds a.numerator (den a) b.seconds b.numerator (den b) p q ca cb e in
+    same_stamp a.seconds a.numerator a.denominator_less_one b.seconds b.numerator b.denominator_less_one r.0 r.1 (omega (arith, r.2))
+  where
+    same_stamp : (s n d t m e : ℕ) → s ≡ t → n ≡ m → d ≡ e → ◌≡◌ {A = Stamp} (record { seconds = s; numerator = n; denominator_less_one = d }) (record { seconds = t; numerator = m; denominator_less_one = e })
+    same_stamp s n d t m e a b c = rw (a, b, c)
 
 same_times : (a b : Instant) → SameNumbers a b → value a =ᵗ value b
 same_times a b s =
@@ -143,3 +154,9 @@ stamp_time i =
 
 pub stamp_below : (i : Instant) → BelowOne (stamp_of i)
 stamp_below i = let b : i.numerator < i.denominator = i.below in omega arith
+
+pub stamp_lowest : (i : Instant) → Coprime (stamp_of i).numerator (den (stamp_of i))
+stamp_lowest i =
+    let b : i.numerator < i.denominator = i.below in
+    let e : i.denominator ≡ i.denominator - 1 + 1 = omega arith in
+    subst (Coprime i.numerator) e i.lowest

@@ -1,11 +1,11 @@
 -- Level instants: lowest terms, the pair before and after, and the bounds.
-use Rattle.std.proofs.Common.{◌≡◌, ℕ, ◌+◌, ◌-◌, ◌*◌, ◌/◌, ◌%◌, ◌<◌, ◌≤◌, true, false, ◌&&◌, ℤ, pos, negsuc, ◌+ℤ◌, ◌-ℤ◌, ◌*ℤ◌, nat_abs, ◌≤ℤ◌, ◌<ℤ◌, Some, None, sym, refl, ap, ◌∙◌, subst, inl, inr, ⊎_elim, mul-le-mul_right, mod-lt, mul_comm, mul-lt-mul_of_pos_right, div-le_self, le_of_mul-le-mul_right, arith}
+use Rattle.std.proofs.Common.{◌≡◌, ℕ, ◌+◌, ◌-◌, ◌*◌, ◌/◌, ◌%◌, ◌<◌, ◌≤◌, true, false, ◌&&◌, ℤ, pos, negsuc, ◌+ℤ◌, ◌-ℤ◌, ◌*ℤ◌, nat_abs, ◌≤ℤ◌, ◌<ℤ◌, Some, None, Ok, sym, refl, ap, ◌∙◌, subst, inl, inr, ⊎_elim, mul-le-mul_right, mod-lt, mul_comm, mul-lt-mul_of_pos_right, div-le_self, le_of_mul-le-mul_right, arith}
 use native.Mathlib.Nat.{div-add-mod}
 use lib.Signed.{le_z}
 use Rattle.std.proofs.lemmas.Int.{ints, by_lt_z}
-use Rattle.std.proofs.lemmas.Bool.{cases_Bool, cases_lt, cond-true, cond-false, and_from, and_left, and_right}
+use Rattle.std.proofs.lemmas.Bool.{cases_Bool, cases_lt, cases_order, cond-true, cond-false, and_from, and_left, and_right}
 use Rattle.event_queue.proofs.Options.{none_some, some_same}
-use Rattle.fairway.specs.Times.{Time, ratio, ◌≤ᵗ◌, ◌=ᵗ◌}
+use Rattle.fairway.specs.Times.{Time, ratio, whole_and, ◌≤ᵗ◌, ◌=ᵗ◌}
 use Rattle.fairway.specs.Fractions.{gcd, Coprime}
 use Rattle.fairway.specs.Stamps.{den, time_of, BelowOne}
 use Rattle.fairway.specs.Courses.{InRange, faster, Due}
@@ -15,7 +15,10 @@ use Rattle.fairway.specs.Standing.{NotLevelBefore}
 use Rattle.fairway.specs.declared.course.Course.{Course}
 use Rattle.fairway.specs.declared.stamp.Stamp.{Stamp}
 use Rattle.fairway.proofs.Fractions.{gcd_is, common_divisor}
-use Rattle.fairway.proofs.Instants.{lowered}
+use Rattle.fairway.proofs.Instants.{lowered, one_stamp, stamp_below, stamp_lowest, stamp_time}
+use Rattle.fairway.specs.Instants.{Made, stamp_of, instant_refusal}
+use Rattle.fairway.specs.declared.instant.Instant.{Instant}
+use Rattle.std.proofs.lemmas.Bool.Decides.{nat_tests}
 use Rattle.fairway.proofs.Kinetic.{sub_mul, passes, stays}
 
 -- ---- a quotient as a stamp
@@ -212,3 +215,26 @@ not_level_yet r f s e u h F =
     let l : Lowest (gap r f) (gain r f) s = subst (Lowest (gap r f) (gain r f)) q (lowest_is (gap r f) (gain r f) (gain_pos r f F b)) in
     le_back (r.speed -ℤ f.speed) (f.base -ℤ r.base) (gap r f) (gain r f) u.num u.den (gained r f F b) (apart r f F b)
     (same_not_later u.num u.den (time_of s).num (den s) (gap r f) (gain r f) (omega arith) l.same h))
+
+-- an instant that was made is, as a stamp, the one in lowest terms
+pub made_lowest : (s n d : ℕ) (i : Instant) → Made s n d (Ok i) → stamp_of i ≡ lowest_stamp (s * d + n) d
+made_lowest s n d i h =
+    let p : 0 < d = divided s n d h.0 in
+    let l = lowest_is (s * d + n) d p in
+    one_stamp (stamp_of i) (lowest_stamp (s * d + n) d) (stamp_below i) l.below (stamp_lowest i) l.coprime
+    (same_quotient (time_of (stamp_of i)).num (den (stamp_of i)) (time_of (lowest_stamp (s * d + n) d)).num (den (lowest_stamp (s * d + n) d)) (s * d + n) d p (subst (λ t. t =ᵗ whole_and s n d) (sym (stamp_time i)) h.1) l.same)
+  where
+    divided : (s n d : ℕ) → instant_refusal s n d ≡ None → 0 < d
+    divided s n d e = grind (arith, nat_tests)
+
+    same_quotient : (a b x y n d : ℕ) → 0 < d → a * d ≡ n * b → x * d ≡ n * y → a * y ≡ x * b
+    same_quotient a b x y n d p e f =
+        let i : a * d * y ≡ n * b * y = ap (λ z. z * y) e in
+        let j : x * d * b ≡ n * y * b = ap (λ z. z * b) f in
+        let k : a * y * d ≡ x * b * d = grind arith in
+        ⊎_elim
+        (λ z. z)
+        (⊎_elim
+        (λ l. let m = mul-lt-mul_of_pos_right {k = d} l p in absurd (omega (arith, m, k)))
+        (λ l. let m = mul-lt-mul_of_pos_right {k = d} l p in absurd (omega (arith, m, k))))
+        (cases_order (a * y) (x * b))

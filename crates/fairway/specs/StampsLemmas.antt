@@ -31,7 +31,7 @@ pub late_to : (x y : Stamp) → y.seconds ≤ x.seconds → (x.seconds ≡ y.sec
 unfolding earlier
 late_to x y h k = tests_to x.seconds y.seconds (x.numerator * den y) (y.numerator * den x) h k
 
-early_from : (x y : Stamp) → earlier x y ≡ true → (x.seconds < y.seconds) ⊎ ((x.seconds ≡ y.seconds) × (x.numerator * den y < y.numerator * den x))
+pub early_from : (x y : Stamp) → earlier x y ≡ true → (x.seconds < y.seconds) ⊎ ((x.seconds ≡ y.seconds) × (x.numerator * den y < y.numerator * den x))
 unfolding earlier
 early_from x y e = tests_yes x.seconds y.seconds (x.numerator * den y) (y.numerator * den x) e
 
