@@ -1,0 +1,15 @@
+pub mod Bases
+pub mod Renewing
+pub mod Meetings
+pub mod Pasts
+pub mod Changing
+pub mod Mending
+pub mod Arriving
+pub mod Advancing
+pub mod Reckoning
+pub mod Throughout
+pub mod Claims
+pub mod Vessels
+pub mod Lengths
+pub mod Counting
+pub mod Performing

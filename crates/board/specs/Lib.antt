@@ -1,0 +1,12 @@
+pub mod Refusals
+pub mod Books
+pub mod Tickets
+pub mod Boards
+pub mod Passings
+pub mod Outcomes
+pub mod History
+pub mod Lines
+pub mod Questions
+pub mod Reckoning
+pub mod Claims
+pub mod ListQuestions

@@ -1,0 +1,13 @@
+// A signed length: parts of a centimetre, as many to one as the denominator.
+#[derive(Clone, Copy, PartialEq, Eq, Debug)]
+pub struct Length {
+    pub parts: i128,
+    pub denominator: u16,
+}
+
+// The vessel next to another, and the gap between the two: the front vessel's position less the rear's.
+#[derive(Clone, Copy, PartialEq, Eq, Debug)]
+pub struct Neighbour {
+    pub number: u16,
+    pub gap: Length,
+}

@@ -1,0 +1,66 @@
+ghost use Rattle.std.specs.Prelude.{◌≡◌};
+ghost use Rattle.board.specs.Refusals.{refusal_number, of_structure};
+
+use kinetic::refusal::Refusal as StructureRefusal;
+
+// Why a board refused a call.
+#[derive(Clone, Copy, PartialEq, Eq, Debug)]
+pub enum Refusal {
+    // the vessel's number is 0
+    NumberZero,
+    // the position, the base or the speed is out of range
+    OutOfRange,
+    // the clock has a fraction
+    ClockHasFraction,
+    // a vessel of that number is aboard already
+    AlreadyAboard,
+    // 64 vessels are aboard
+    Full,
+    // no vessel of that number is aboard
+    UnknownVessel,
+    // the numbers are no instant of the clock
+    NoSuchInstant,
+    // the instant is earlier than the clock
+    Early,
+    // there are fewer rows than the load
+    FewRows,
+    // the queue's capacity is below 64
+    SmallQueue,
+}
+
+// The refusal's number in the table of refusals.
+impl From<Refusal> for u8 {
+    ghost from_gives = { λ refusal number. number ≡ refusal_number refusal };
+
+    fn from(refusal: Refusal) -> u8 {
+        match refusal {
+            Refusal::NumberZero => 1,
+            Refusal::OutOfRange => 2,
+            Refusal::ClockHasFraction => 3,
+            Refusal::AlreadyAboard => 4,
+            Refusal::Full => 5,
+            Refusal::UnknownVessel => 6,
+            Refusal::NoSuchInstant => 7,
+            Refusal::Early => 8,
+            Refusal::FewRows => 9,
+            Refusal::SmallQueue => 10,
+        }
+    }
+}
+
+// A structure's refusal of a question on one vessel, as the board's. `NotDue`, which no question gives, has
+// the number of `UnknownVessel`.
+impl From<StructureRefusal> for Refusal {
+    ghost from_gives = { λ refusal own. own ≡ of_structure refusal };
+
+    fn from(refusal: StructureRefusal) -> Refusal {
+        match refusal {
+            StructureRefusal::NumberZero => Refusal::NumberZero,
+            StructureRefusal::OutOfRange => Refusal::OutOfRange,
+            StructureRefusal::AlreadyAboard => Refusal::AlreadyAboard,
+            StructureRefusal::Full => Refusal::Full,
+            StructureRefusal::UnknownVessel => Refusal::UnknownVessel,
+            StructureRefusal::NotDue => Refusal::UnknownVessel,
+        }
+    }
+}
