@@ -1,0 +1,3 @@
+pub mod Meetings
+pub mod Table
+pub mod Calls

@@ -1,0 +1,5 @@
+#![tactic(auto)]
+
+mod lines;
+pub mod table;
+pub mod told;
