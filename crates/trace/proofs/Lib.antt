@@ -1,0 +1,5 @@
+pub mod Bytes
+pub mod Layouts
+pub mod WalkLemmas
+pub mod Decoding
+pub mod Collecting

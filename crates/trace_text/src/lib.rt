@@ -1,0 +1,6 @@
+#![tactic(auto)]
+
+pub mod convert;
+mod line;
+pub mod text;
+mod words;
