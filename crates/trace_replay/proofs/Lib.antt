@@ -1,0 +1,3 @@
+pub mod Booked
+pub mod Ways
+pub mod Finished

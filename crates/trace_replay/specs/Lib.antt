@@ -1,0 +1,5 @@
+pub mod Faults
+pub mod Calls
+pub mod ByBook
+pub mod Replays
+pub mod Steps

@@ -1,0 +1,5 @@
+#![tactic(auto)]
+
+pub mod fault;
+mod record;
+pub mod replay;
