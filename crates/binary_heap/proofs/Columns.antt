@@ -1,11 +1,11 @@
 -- The columns of the cells, through a read and a write.
-use Rattle.std.proofs.Common.{◌≡◌, ℕ, ◌<◌, ◌≤◌, List, length, get_or, set, Option, refl, ap, ◌∙◌}
+use Rattle.std.proofs.Common.{◌≡◌, ℕ, ◌<◌, ◌≤◌, List, length, get_or, set, Option, refl}
 use Rattle.event_queue.proofs.Columns.{map_kept, map_past}
 use Rattle.std.proofs.lemmas.List.{map-set, length-map, get_or-map}
-use Rattle.binary_heap.specs.Slots.{Columns, columns, ticket_at, with_key, with_ticket, with_slot, seated, exchanged}
+use Rattle.binary_heap.specs.Slots.{Columns, columns, ticket_at, with_key, with_ticket, with_slot}
 use Rattle.binary_heap.specs.declared.cell.Cell.{Cell}
 
-columns_from : {K : Type 0} {k k' : List (Option K)} {s s' i i' : List ℕ} → k ≡ k' → s ≡ s' → i ≡ i' → ◌≡◌ {A = Columns K} (record { key = k; slot = s; ticket = i }) (record { key = k'; slot = s'; ticket = i' })
+pub columns_from : {K : Type 0} {k k' : List (Option K)} {s s' i i' : List ℕ} → k ≡ k' → s ≡ s' → i ≡ i' → ◌≡◌ {A = Columns K} (record { key = k; slot = s; ticket = i }) (record { key = k'; slot = s'; ticket = i' })
 columns_from e f g = rw (e, f, g)
 
 module _ {K : Type 0} (cells : List (Cell K)) where
@@ -42,6 +42,3 @@ module _ {K : Type 0} (cells : List (Cell K)) where
 
     pub ticket_unset : (t : ℕ) → columns cells ≡ with_ticket (columns cells) i t
     ticket_unset t = columns_from refl refl (map_past (λ c. c.ticket) cells i t h)
-
-pub exchange_columns : {K : Type 0} (t u v : Columns K) (a b x y : ℕ) → x ≡ ticket_at t a → y ≡ ticket_at t b → u ≡ seated t a y → v ≡ seated u b x → v ≡ exchanged t a b
-exchange_columns t u v a b x y ex ey eu ev = ev ∙ ap (λ w. seated w b x) eu ∙ ap (λ i. seated (seated t a i) b x) ey ∙ ap (λ i. seated (seated t a (ticket_at t b)) b i) ex

@@ -4,15 +4,17 @@ use Rattle.event_queue.specs.Orders.{sooner}
 use Rattle.event_queue.specs.Queues.{count_below}
 use Rattle.event_queue.proofs.Orders.{Total}
 use Rattle.event_queue.proofs.Counts.{count_none, count_more, count_room, count_some}
+use Rattle.std.proofs.lemmas.List.{get_or-set_same}
 use Rattle.binary_heap.specs.declared.cell.Cell.{Cell}
-use Rattle.binary_heap.specs.Slots.{Columns, columns, cell_key, key_of, slot_of, ticket_at, key_at, with_key, seated, Seat, Linked}
+use Rattle.binary_heap.specs.declared.slots.Entry.{Entry}
+use Rattle.binary_heap.specs.Slots.{Columns, columns, cell_key, key_of, slot_of, ticket_at, key_at, with_key, seated, Seat, Linked, Reads}
 use Rattle.binary_heap.specs.Orders.{Upward, Loose}
 use Rattle.binary_heap.specs.Sifts.{Settled}
 use Rattle.binary_heap.specs.Sound.{Sound, Keyed}
 use Rattle.binary_heap.proofs.Columns.{key_length}
 use Rattle.binary_heap.proofs.Sifting.{top_first}
 use Rattle.binary_heap.proofs.Sifts.{cells_even}
-use Rattle.binary_heap.proofs.Seating.{insert_linked, insert_upward, remove_linked, remove_loose, remove_ordered}
+use Rattle.binary_heap.proofs.Seating.{insert_linked, insert_upward, remove_linked, remove_loose, remove_ordered, last_holds, last_stands}
 use Rattle.event_queue.proofs.Options.{some_none}
 use Rattle.event_queue.proofs.Keyed.{held_cell, keyed_length, keyed_there, keyed_others}
 
@@ -31,6 +33,9 @@ module _ {K : Type 0} (before : K → K → Bool) (cells cells' : List (Cell K))
       let l = insert_linked before t (cells_even cells) n i k S.linked (omega (arith, room_left, key_length cells)) (omega (arith, key_length cells)) free in
       let w = insert_upward before t (cells_even cells) n i k S.linked (omega (arith, room_left, key_length cells)) (omega (arith, key_length cells)) free S.ordered in
       subst (λ z. (Linked z (n + 1) → Upward before (key_at z) (n + 1) n → Settled before z (columns cells') (n + 1))) e (sift (n + 1) (omega arith)) l w
+
+  pub given_key : (u : Columns K) → u ≡ with_key (columns cells) i (Some k) → key_of u i ≡ Some k
+  given_key u e = ap (λ w. key_of w i) e ∙ get_or-set_same (columns cells).key i (Some k) None (omega (arith, hi, key_length cells))
 
   pub inserted : Settled before (seated (with_key (columns cells) i (Some k)) n i) (columns cells') (n + 1) → Keyed before cells cells' (n + 1) i (Some k)
   inserted z = record {
@@ -78,25 +83,37 @@ module _ {K : Type 0} (before : K → K → Bool) (cells cells' : List (Cell K))
         keys = z.keys;
       }
 
--- the two writes that come before a sift
-pub written : {K : Type 0} (t u v : Columns K) (i : ℕ) (k : Option K) (s y : ℕ) → u ≡ with_key t i k → v ≡ seated u s y → v ≡ seated (with_key t i k) s y
-written t u v i k s y eu ev = ev ∙ ap (λ w. seated w s y) eu
+-- the key in what was read of a slot is that of its ticket
+entry_key : {K : Type 0} (u : Columns K) (m : Entry K) (k : K) → Reads u m → m.key ≡ Some k → key_of u m.ticket ≡ Some k
+unfolding key_at
+entry_key u m k r e = ap (key_of u) r.0 ∙ sym r.1 ∙ e
 
 -- a removal as the code makes it: with a sift, and at the last slot without
-module _ {K : Type 0} (before : K → K → Bool) (cells cells' : List (Cell K)) (n i : ℕ) (k : K) (S : Sound before cells n) (held : key_of (columns cells) i ≡ Some k) (s y : ℕ) (es : s ≡ slot_of (columns cells) i) (ey : y ≡ ticket_at (columns cells) (n - 1)) (u : Columns K) (eu : u ≡ seated (with_key (columns cells) i None) s y) where
-  seated_as : u ≡ seated (with_key (columns cells) i None) (slot_of (columns cells) i) (ticket_at (columns cells) (n - 1))
-  seated_as = eu ∙ ap (λ z. seated (with_key (columns cells) i None) z y) es ∙ ap (λ z. seated (with_key (columns cells) i None) (slot_of (columns cells) i) z) ey
+module _ {K : Type 0} (before : K → K → Bool) (cells cells' : List (Cell K)) (n i : ℕ) (k : K) (S : Sound before cells n) (held : key_of (columns cells) i ≡ Some k) (s : ℕ) (es : s ≡ slot_of (columns cells) i) (u : Columns K) (eu : u ≡ with_key (columns cells) i None) where
+  -- the ticket of the last slot m was read after the key was written
+  module _ (h : s < n - 1) (m : Entry K) (em : m.slot ≡ n - 1) (r : Reads u m) where
+    last_ticket : m.ticket ≡ ticket_at (columns cells) (n - 1)
+    last_ticket = r.0 ∙ ap (ticket_at u) em ∙ ap (λ w. ticket_at w (n - 1)) eu
 
-  pub remove_sifted : Total before → s < n - 1 → (Linked u (n - 1) → Loose before (key_at u) (n - 1) s → Settled before u (columns cells') (n - 1)) → Keyed before cells cells' (n - 1) i None
-  remove_sifted o h sift =
-      removed before cells cells' n i k S held
-      (remove_settles before cells cells' n i k S held o u seated_as (subst (λ z. z < n - 1) es h)
-      (λ l w. sift l (subst (λ z. Loose before (key_at u) (n - 1) z) (sym es) w)))
+    seated_as : seated u s m.ticket ≡ seated (with_key (columns cells) i None) (slot_of (columns cells) i) (ticket_at (columns cells) (n - 1))
+    seated_as = ap (λ w. seated w s m.ticket) eu ∙ ap (λ z. seated (with_key (columns cells) i None) z m.ticket) es ∙ ap (λ z. seated (with_key (columns cells) i None) (slot_of (columns cells) i) z) last_ticket
+
+    pub remove_sifted : Total before → (k' : K) → m.key ≡ Some k' → (key_of u m.ticket ≡ Some k' → Linked (seated u s m.ticket) (n - 1) → Loose before (key_at (seated u s m.ticket)) (n - 1) s → Settled before (seated u s m.ticket) (columns cells') (n - 1)) → Keyed before cells cells' (n - 1) i None
+    remove_sifted o k' ek sift =
+        removed before cells cells' n i k S held
+        (remove_settles before cells cells' n i k S held o (seated u s m.ticket) seated_as (subst (λ z. z < n - 1) es h)
+        (λ l w. sift (entry_key u m k' r ek) l (subst (λ z. Loose before (key_at (seated u s m.ticket)) (n - 1) z) (sym es) w)))
+
+    pub last_keyed : ((k' : K) → m.key ≡ Some k' → ⊥) → ⊥
+    last_keyed none =
+        none _ (r.1 ∙ ap (key_at u) em ∙ ap (λ w. key_at w (n - 1)) eu ∙ last_holds before (columns cells) (cells_even cells) n i k S.linked (some_held before cells cells' n i k S held) held (subst (λ z. z < n - 1) es h))
 
   pub remove_unsifted : n - 1 ≤ s → columns cells' ≡ u → Keyed before cells cells' (n - 1) i None
   remove_unsifted h e =
+      let last = subst (λ z. n - 1 ≤ z) es h in
       removed before cells cells' n i k S held
-      (remove_last before cells cells' n i k S held (subst (λ z. n - 1 ≤ z) es h) (e ∙ seated_as))
+      (remove_last before cells cells' n i k S held last
+      (e ∙ eu ∙ last_stands before (columns cells) (cells_even cells) n i k S.linked (some_held before cells cells' n i k S held) held last))
 
 -- the ticket in the first slot comes first
 module _ {K : Type 0} (before : K → K → Bool) (cells : List (Cell K)) (n : ℕ) (S : Sound before cells n) where

@@ -1,12 +1,13 @@
 -- A ticket that gets a key, and one that loses it: the columns before the sift, and the heap after it.
-use Rattle.std.proofs.Common.{◌≡◌, ℕ, ◌+◌, ◌-◌, ◌<◌, ◌≤◌, Bool, false, ◌≢◌, length, set, Some, None, sym, ap, ◌∙◌, subst, ⊎_elim, arith}
+use Rattle.std.proofs.Common.{◌≡◌, ℕ, ◌+◌, ◌-◌, ◌<◌, ◌≤◌, Bool, false, ◌≢◌, length, set, Some, None, sym, refl, ap, ◌∙◌, subst, ⊎_elim, arith}
 use Rattle.std.proofs.lemmas.Bool.{cases_eq}
-use Rattle.std.proofs.lemmas.List.{get_or-set_same, get_or-set_other, length-set}
+use Rattle.std.proofs.lemmas.List.{get_or-set_same, get_or-set_other, length-set, set-get_or}
 use Rattle.event_queue.specs.Orders.{sooner}
 use Rattle.event_queue.proofs.Options.{some_none}
 use Rattle.event_queue.proofs.Orders.{Total, sooner_carries}
 use Rattle.binary_heap.specs.Slots.{Columns, key_of, slot_of, ticket_at, key_at, with_key, seated, Seat, Linked}
 use Rattle.binary_heap.specs.Orders.{parent, Ordered, Upward, Loose}
+use Rattle.binary_heap.proofs.Columns.{columns_from}
 use Rattle.binary_heap.proofs.Seats.{Even, seated_ticket, seated_slot, seated_ticket_other, seated_slot_other, seat_from}
 use Rattle.binary_heap.proofs.Sifting.{later_as}
 
@@ -84,7 +85,7 @@ module _ {K : Type 0} (before : K → K → Bool) (t : Columns K) (even : Even t
   hp : slot_of t i < n
   hp = l.within i k held
 
-  hl : n - 1 < n
+  pub hl : n - 1 < n
   hl = omega arith
 
   cell_of_i : i < length t.key
@@ -170,6 +171,20 @@ module _ {K : Type 0} (before : K → K → Bool) (t : Columns K) (even : Even t
   kept_at : (s : ℕ) → s < n → s ≢ slot_of t i → key_at after s ≡ key_at t s
   unfolding key_at
   kept_at s h ne = ap (key_of after) (kept_ticket s ne) ∙ kept_key (ticket_at t s) (not_i s h ne)
+
+  -- the ticket of the last slot holds a key still, where that is not the slot that becomes free
+  pub last_holds : slot_of t i < n - 1 → key_at (with_key t i None) (n - 1) ≡ Some (l.seats (n - 1) hl).key
+  unfolding key_at
+  last_holds h = kept_key (ticket_at t (n - 1)) (not_i (n - 1) hl (λ z. omega arith)) ∙ (l.seats (n - 1) hl).holds
+
+  -- where it is, the ticket stands there already
+  pub last_stands : n - 1 ≤ slot_of t i → with_key t i None ≡ after
+  last_stands h =
+      let e : slot_of t i ≡ n - 1 = omega (arith, hp) in
+      let f : ticket_at t (n - 1) ≡ i = ap (ticket_at t) (sym e) ∙ l.there i k held in
+      columns_from refl
+      (sym (ap (λ j. set t.slot j (slot_of t i)) f ∙ set-get_or t.slot i 0))
+      (sym (ap (λ s. set t.ticket (slot_of t i) (ticket_at t s)) (sym e) ∙ set-get_or t.ticket (slot_of t i) 0))
 
   pub remove_ordered : n - 1 ≤ slot_of t i → Ordered before (key_at t) n → Ordered before (key_at after) (n - 1)
   remove_ordered h o c p b = later_as before (key_at t c) _ (key_at t (parent c)) _ (kept_at c (omega arith) (λ z. omega arith)) (kept_at (parent c) (omega arith) (λ z. omega arith)) (o c p (omega arith))

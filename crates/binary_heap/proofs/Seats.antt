@@ -1,8 +1,12 @@
 -- Tickets in their slots: what an exchange, a new ticket and a removal keep.
-use Rattle.std.proofs.Common.{◌≡◌, ℕ, ◌<◌, ◌≢◌, length, Some, sym, ap, ◌∙◌, subst, ⊎_elim, arith}
+use Rattle.std.proofs.Common.{◌≡◌, ℕ, ◌<◌, ◌≢◌, List, length, set, Some, sym, ap, ◌∙◌, subst, ⊎_elim, arith}
 use Rattle.std.proofs.lemmas.Bool.{cases_eq}
-use Rattle.std.proofs.lemmas.List.{get_or-set_same, get_or-set_other, length-set}
-use Rattle.binary_heap.specs.Slots.{Columns, key_of, slot_of, ticket_at, key_at, seated, exchanged, Seat, Linked}
+use Rattle.std.proofs.lemmas.List.{get_or-set_same, get_or-set_other, length-set, set-set, set_comm}
+use Rattle.binary_heap.specs.Slots.{Columns, key_of, slot_of, ticket_at, key_at, seated, Seat, Linked}
+
+-- the tickets in the slots a and b change places
+abbrev pub exchanged : {K : Type 0} → Columns K → ℕ → ℕ → Columns K
+exchanged t a b = seated (seated t a (ticket_at t b)) b (ticket_at t a)
 
 -- the columns are equally long
 pub record Even {K : Type 0} (t : Columns K) : Type 0 where
@@ -103,3 +107,34 @@ module _ {K : Type 0} (t : Columns K) (even : Even t) (n : ℕ) (l : Linked t n)
   pub exchange_others : (s : ℕ) → s ≢ a → s ≢ b → key_at (exchanged t a b) s ≡ key_at t s
   unfolding key_at
   exchange_others s p q = ap (key_of t) (ticket_other s p q)
+
+-- The ticket i, not yet seated, goes on from the slot a to the slot b, and the ticket there to a.
+module _ {K : Type 0} (t : Columns K) (even : Even t) (a b i : ℕ) (ha : a < length t.key) (ne : a ≢ b) where
+  -- of two writes of the slots of two tickets the first is lost where a third one follows
+  slots_over : (xs : List ℕ) (x : ℕ) → set (set (set xs i a) x a) i b ≡ set (set xs x a) i b
+  slots_over xs x =
+      ⊎_elim
+      (λ e. ap (λ z. set (set (set xs i a) z a) i b) e ∙ ap (λ zs. set zs i b) (set-set xs i a a) ∙ sym (ap (λ z. set (set xs z a) i b) e))
+      (λ q. ap (λ zs. set zs i b) (set_comm xs i x a a (λ e. q (sym e))) ∙ set-set (set xs x a) i a b)
+      (cases_eq x i)
+
+  seated_over : (x : ℕ) → seated (seated t a x) b i ≡ seated (seated (seated t a i) a x) b i
+  seated_over x = rw (slots_over t.slot x, set-set t.ticket a i x)
+
+  moved_ticket : ticket_at (seated t a i) b ≡ ticket_at t b
+  moved_ticket = seated_ticket_other t even a i b (λ e. ne (sym e))
+
+  seated_here : ticket_at (seated t a i) a ≡ i
+  seated_here = seated_ticket t even a i ha
+
+  pub move_exchanges : seated (seated t a (ticket_at t b)) b i ≡ exchanged (seated t a i) a b
+  move_exchanges =
+      seated_over (ticket_at t b) ∙ ap (λ x. seated (seated (seated t a i) a x) b i) (sym moved_ticket) ∙ ap (λ j. seated (seated (seated t a i) a (ticket_at (seated t a i) b)) b j) (sym seated_here)
+
+  pub move_here : key_at (seated t a i) a ≡ key_of t i
+  unfolding key_at
+  move_here = ap (key_of t) seated_here
+
+  pub move_there : key_at (seated t a i) b ≡ key_at t b
+  unfolding key_at
+  move_there = ap (key_of t) moved_ticket

@@ -1,15 +1,15 @@
 -- The sifts, as their loops go.
-use Rattle.std.proofs.Common.{◌≡◌, ℕ, ◌+◌, ◌*◌, ◌<◌, ◌≤◌, Bool, true, false, ◌≢◌, ◌⊎◌, List, Option, sym, ap, ◌∙◌, subst, inl, inr, ⊎_elim, arith}
+use Rattle.std.proofs.Common.{◌≡◌, ℕ, ◌+◌, ◌*◌, ◌<◌, ◌≤◌, Bool, true, false, ◌≢◌, ◌⊎◌, List, length, Some, None, Option, slice_index_or, sym, ap, ◌∙◌, subst, inl, inr, ⊎_elim, arith}
 use Rattle.std.proofs.lemmas.Bool.{cases_eq}
 use Rattle.event_queue.specs.Orders.{sooner}
 use Rattle.event_queue.proofs.Orders.{Total, sooner_asymmetric, sooner_carries, sooner_itself}
 use Rattle.binary_heap.specs.declared.cell.Cell.{Cell}
-use Rattle.binary_heap.specs.Slots.{Columns, columns, key_at, exchanged, Linked}
-use Rattle.binary_heap.specs.Orders.{parent, Upward, Downward, FirstChild}
+use Rattle.binary_heap.specs.Slots.{Columns, columns, key_of, ticket_at, key_at, seated, Linked}
+use Rattle.binary_heap.specs.Orders.{parent, Upward, Downward, Loose, FirstChild}
 use Rattle.binary_heap.specs.Sifts.{Settled}
 use Rattle.binary_heap.proofs.Columns.{key_length, slot_length, ticket_length}
-use Rattle.binary_heap.proofs.Seats.{Even, exchange_linked, exchange_first, exchange_second, exchange_others}
-use Rattle.binary_heap.proofs.Sifting.{Swapped, up_step, up_top, up_stop, down_step, down_stop}
+use Rattle.binary_heap.proofs.Seats.{Even, exchanged, exchange_linked, exchange_first, exchange_second, exchange_others, seated_even, move_exchanges, move_here, move_there}
+use Rattle.binary_heap.proofs.Sifting.{Swapped, later_as, up_step, up_top, up_stop, down_step, down_stop, loose_top, loose_down, loose_up}
 
 pub cells_even : {K : Type 0} (cells : List (Cell K)) → Even (columns cells)
 cells_even cells = record { slot = slot_length cells ∙ sym (key_length cells); ticket = ticket_length cells ∙ sym (key_length cells) }
@@ -66,6 +66,82 @@ module _ {K : Type 0} (before : K → K → Bool) (t u : Columns K) (n s : ℕ) 
 
   pub sink_stop : ((c : ℕ) → 0 < c → c < n → parent c ≡ s → sooner before (key_at u c) (key_at u s) ≡ false) → Sinking before t u n s → Settled before t u n
   sink_stop none r = record { keys = r.keys; linked = r.linked; ordered = down_stop before (key_at u) n s none r.downward }
+
+-- A sift that has the ticket i, with the key k, in hand: it began with t, and has come to u and the slot s, in which i is
+-- seated at last. At each step it writes the ticket x of another slot into s, and goes on from that slot.
+module _ {K : Type 0} (before : K → K → Bool) (o : Total before) (t u v : Columns K) (even : Even u) (n s i : ℕ) (k : K) (held : key_of t i ≡ Some k) where
+  hand_key : u.key ≡ t.key → key_of u i ≡ Some k
+  hand_key e = ap (λ ks. slice_index_or ks i None) e ∙ held
+
+  seated_key : u.key ≡ t.key → s < length u.key → key_at (seated u s i) s ≡ Some k
+  seated_key e hl = move_here u even s (s + 1) i hl (λ z. omega arith) ∙ hand_key e
+
+  other_key : (b : ℕ) → s < length u.key → s ≢ b → key_at (seated u s i) b ≡ key_at u b
+  other_key b hl ne = move_there u even s b i hl ne
+
+  exchanged_from : (b x : ℕ) → s < length u.key → s ≢ b → x ≡ ticket_at u b → v ≡ seated u s x → seated v b i ≡ exchanged (seated u s i) s b
+  exchanged_from b x hl ne ex ev = ap (λ w. seated w b i) ev ∙ ap (λ z. seated (seated u s z) b i) ex ∙ move_exchanges u even s b i hl ne
+
+  pub rise_move : (x : ℕ) → 0 < s → x ≡ ticket_at u (parent s) → sooner before (Some k) (key_at u (parent s)) ≡ true → v ≡ seated u s x → Rising before t (seated u s i) n s → Rising before t (seated v (parent s) i) n (parent s)
+  rise_move x hs ex e ev r =
+      let hl : s < length u.key = omega (arith, r.within, r.linked.room) in
+      let ne : s ≢ parent s = λ z. omega arith in
+      rise_step before t (seated u s i) (seated v (parent s) i) n s o (seated_even u even s i) hs
+      (ap (λ y. sooner before y (key_at (seated u s i) (parent s))) (seated_key r.keys hl) ∙ ap (λ y. sooner before (Some k) y) (other_key (parent s) hl ne) ∙ e)
+      (exchanged_from (parent s) x hl ne ex ev) r
+
+  pub rise_seat : (0 < s → sooner before (Some k) (key_at u (parent s)) ≡ false) → v ≡ seated u s i → Rising before t (seated u s i) n s → Settled before t v n
+  rise_seat e ev r =
+      let hl : s < length u.key = omega (arith, r.within, r.linked.room) in
+      subst (λ w. Settled before t w n) (sym ev)
+      (⊎_elim
+      (λ z. rise_top before t (seated u s i) n s (omega arith) r)
+      (λ z. let ne : s ≢ parent s = λ y. omega arith in
+      rise_stop before t (seated u s i) n s (later_as before (Some k) _ (key_at u (parent s)) _ (seated_key r.keys hl) (other_key (parent s) hl ne) (e (omega arith))) r)
+      (cases_eq s 0))
+
+  pub sink_move : (m x : ℕ) → FirstChild before (key_at u) n s m → x ≡ ticket_at u m → sooner before (key_at u m) (Some k) ≡ true → v ≡ seated u s x → Sinking before t (seated u s i) n s → Sinking before t (seated v m i) n m
+  sink_move m x f ex e ev r =
+      let hl : s < length u.key = omega (arith, f.below, f.child, r.linked.room) in
+      let ne : s ≢ m = λ z. omega (arith, f.positive, f.child) in
+      sink_step before t (seated u s i) (seated v m i) n s m o (seated_even u even s i)
+      (record {
+        positive = f.positive;
+        below = f.below;
+        child = f.child;
+        first = λ c p b q. later_as before (key_at u c) _ (key_at u m) _ (other_key c hl (λ z. omega arith)) (other_key m hl ne) (f.first c p b q);
+      })
+      (ap (λ y. sooner before (key_at (seated u s i) m) y) (seated_key r.keys hl) ∙ ap (λ y. sooner before y (Some k)) (other_key m hl ne) ∙ e)
+      (exchanged_from m x hl ne ex ev) r
+
+  pub sink_seat : s < n → ((c : ℕ) → 0 < c → c < n → parent c ≡ s → sooner before (key_at u c) (Some k) ≡ false) → v ≡ seated u s i → Sinking before t (seated u s i) n s → Settled before t v n
+  sink_seat hs none ev r =
+      let hl : s < length u.key = omega (arith, hs, r.linked.room) in
+      subst (λ w. Settled before t w n) (sym ev)
+      (sink_stop before t (seated u s i) n s
+      (λ c p b q. later_as before (key_at u c) _ (Some k) _ (other_key c hl (λ z. omega arith)) (seated_key r.keys hl) (none c p b q)) r)
+
+-- where a ticket with its key belongs, from the slot s in which it is seated
+module _ {K : Type 0} (before : K → K → Bool) (o : Total before) (u : Columns K) (even : Even u) (n s i : ℕ) (k : K) (held : key_of u i ≡ Some k) (hs : s < n) (l : Linked (seated u s i) n) where
+  within_cells : s < length u.key
+  within_cells = omega (arith, hs, l.room)
+
+  here : key_at (seated u s i) s ≡ Some k
+  here = move_here u even s (s + 1) i within_cells (λ z. omega arith) ∙ held
+
+  above : 0 < s → key_at (seated u s i) (parent s) ≡ key_at u (parent s)
+  above p = move_there u even s (parent s) i within_cells (λ z. omega arith)
+
+  pub belongs_up : 0 < s → sooner before (Some k) (key_at u (parent s)) ≡ true → Loose before (key_at (seated u s i)) n s → Upward before (key_at (seated u s i)) n s
+  belongs_up p e = loose_up before (key_at (seated u s i)) n s o p (ap (λ y. sooner before y (key_at (seated u s i) (parent s))) here ∙ ap (λ y. sooner before (Some k) y) (above p) ∙ e)
+
+  pub belongs_down : (0 < s → sooner before (Some k) (key_at u (parent s)) ≡ false) → Loose before (key_at (seated u s i)) n s → Downward before (key_at (seated u s i)) n s
+  belongs_down e w =
+      ⊎_elim
+      (λ z. loose_top before (key_at (seated u s i)) n s z w)
+      (λ z. let p : 0 < s = omega arith in
+      loose_down before (key_at (seated u s i)) n s (later_as before (Some k) _ (key_at u (parent s)) _ here (above p) (e p)) w)
+      (cases_eq s 0)
 
 -- the children of a slot
 module _ {K : Type 0} (before : K → K → Bool) (o : Total before) (at : ℕ → Option K) (n s : ℕ) (h : 2 * s + 1 < n) where

@@ -1,6 +1,8 @@
 -- The order of a binary heap, on the keys of its slots: the slot s has the children 2s + 1 and 2s + 2.
 use Rattle.std.specs.Prelude.{◌≡◌, ℕ, ◌-◌, ◌/◌, ◌<◌, Bool, true, false, Some, None, Option, ◌≢◌}
 use Rattle.event_queue.specs.Orders.{sooner}
+use Rattle.binary_heap.specs.Slots.{Columns, ticket_at, key_at}
+use Rattle.binary_heap.specs.declared.slots.Entry.{Entry}
 
 abbrev pub parent : ℕ → ℕ
 parent s = (s - 1) / 2
@@ -36,7 +38,13 @@ module _ {K : Type 0} (before : K → K → Bool) (at : ℕ → Option K) (n : �
     pub child : parent m ≡ s
     pub first : (c : ℕ) → 0 < c → c < n → parent c ≡ s → sooner before (at c) (at m) ≡ false
 
-  -- such a child that comes sooner than s, or none where no child comes sooner than s
-  abbrev pub SoonerChild : ℕ → Option ℕ → Type 0
-  SoonerChild s (Some m) = FirstChild s m × (sooner before (at m) (at s) ≡ true)
-  SoonerChild s None = (c : ℕ) → 0 < c → c < n → parent c ≡ s → sooner before (at c) (at s) ≡ false
+module _ {K : Type 0} (before : K → K → Bool) (t : Columns K) where
+  -- the ticket in the parent of the slot s, which has a later key than k; none where s is the top or has no later parent
+  abbrev pub LaterParent : ℕ → K → Option ℕ → Type 0
+  LaterParent s k (Some x) = (0 < s) × (x ≡ ticket_at t (parent s)) × (sooner before (Some k) (key_at t (parent s)) ≡ true)
+  LaterParent s k None = 0 < s → sooner before (Some k) (key_at t (parent s)) ≡ false
+
+  -- a first child of the slot s among n, which comes sooner than k; none where no child of s does
+  abbrev pub SoonerChild : ℕ → ℕ → K → Option (Entry K) → Type 0
+  SoonerChild n s k (Some m) = FirstChild before (key_at t) n s m.slot × (m.ticket ≡ ticket_at t m.slot) × (sooner before (key_at t m.slot) (Some k) ≡ true)
+  SoonerChild n s k None = (c : ℕ) → 0 < c → c < n → parent c ≡ s → sooner before (key_at t c) (Some k) ≡ false

@@ -1,6 +1,7 @@
 -- The cells of a binary heap, read by columns.
 use Rattle.std.specs.Prelude.{◌≡◌, ℕ, ◌<◌, ◌≤◌, List, map, length, Some, None, Option, slice_index, slice_index_or, slice_set}
 use Rattle.binary_heap.specs.declared.cell.Cell.{Cell}
+use Rattle.binary_heap.specs.declared.slots.Entry.{Entry}
 
 -- the key in a cell, or none
 abbrev pub cell_key : {K : Type 0} → Cell K → Option K
@@ -32,6 +33,10 @@ ticket_at t s = slice_index t.ticket s
 unfoldable pub key_at : {K : Type 0} → Columns K → ℕ → Option K
 key_at t s = key_of t (ticket_at t s)
 
+-- what was read of a slot is what stands there
+abbrev pub Reads : {K : Type 0} → Columns K → Entry K → Type 0
+Reads t e = (e.ticket ≡ ticket_at t e.slot) × (e.key ≡ key_at t e.slot)
+
 -- the ticket i holds k
 abbrev pub with_key : {K : Type 0} → Columns K → ℕ → Option K → Columns K
 with_key t i k = record { key = slice_set t.key i k; slot = t.slot; ticket = t.ticket }
@@ -47,10 +52,6 @@ with_slot t i s = record { key = t.key; slot = slice_set t.slot i s; ticket = t.
 -- the ticket i stands in the slot s
 abbrev pub seated : {K : Type 0} → Columns K → ℕ → ℕ → Columns K
 seated t s i = record { key = t.key; slot = slice_set t.slot i s; ticket = slice_set t.ticket s i }
-
--- the tickets in the slots a and b change places
-abbrev pub exchanged : {K : Type 0} → Columns K → ℕ → ℕ → Columns K
-exchanged t a b = seated (seated t a (ticket_at t b)) b (ticket_at t a)
 
 -- the ticket in the slot s holds a key, and knows its slot
 pub record Seat {K : Type 0} (t : Columns K) (s : ℕ) : Type 0 where

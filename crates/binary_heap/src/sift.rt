@@ -1,78 +1,90 @@
-ghost use Rattle.std.specs.Prelude.{◌≡◌, ℕ, ◌+◌, ◌*◌, ◌<◌, ◌≤◌};
-ghost use Rattle.binary_heap.specs.Slots.{columns, key_at};
-ghost use Rattle.binary_heap.specs.Orders.{FirstChild, SoonerChild};
+ghost use Rattle.std.specs.Prelude.{◌≡◌, ℕ, ◌+◌, ◌*◌, ◌<◌, ◌≤◌, Some};
+ghost use Rattle.binary_heap.specs.Slots.{columns, key_of, key_at, seated, Reads};
+ghost use Rattle.binary_heap.specs.Orders.{FirstChild, LaterParent, SoonerChild};
 ghost use Rattle.binary_heap.specs.Sifts.{SiftsUp, SiftsDown, Sifts};
 
 use crate::cell::Cell;
-use crate::slots::{exchange, is_sooner_at};
-use event_queue::key::Key;
+use crate::slots::{Entry, entry_at, seat};
+use event_queue::key::{Key, is_sooner};
 
-// Exchanges the ticket in a slot with that of the parent slot while its key comes sooner.
-pub fn sift_up<K: Key>(cells: &mut [Cell<K>], slot: usize)
-    ensures { (n : ℕ) → slot < n → SiftsUp K.Key.before (columns cells.old) (columns cells.new) n slot }
+// A sift moves the tickets that it passes into a slot that is free to be written, each one step, and seats its own
+// ticket once, at the end. Its contract speaks of the cells with the ticket seated in the slot that it starts from.
+
+// The ticket in the parent slot, where the key comes sooner than its key; none also for the top slot.
+fn later_parent<K: Key>(cells: &[Cell<K>], slot: usize, key: K) -> Option<usize>
+    ensures { LaterParent K.Key.before (columns cells.now) slot key result }
+{
+    if slot == 0 {
+        return None;
+    }
+    let above = entry_at(cells, (slot - 1) / 2);
+    is_sooner(Some(key), above.key).then_some(above.ticket)
+}
+
+// Brings a ticket with its key from a slot up to where the key belongs.
+pub fn sift_up<K: Key>(cells: &mut [Cell<K>], slot: usize, ticket: usize, key: K)
+    ensures { (n : ℕ) → slot < n → key_of (columns cells.old) ticket ≡ Some key → SiftsUp K.Key.before (seated (columns cells.old) slot ticket) (columns cells.new) n slot }
 {
     let mut at = slot;
-    while at > 0 {
-        let parent = (at - 1) / 2;
-        if !is_sooner_at(cells, at, parent) {
-            return;
-        }
-        exchange(cells, at, parent);
-        at = parent;
+    while let Some(above) = later_parent(cells, at, key) {
+        seat(cells, at, above);
+        at = (at - 1) / 2;
     }
+    seat(cells, at, ticket);
 }
 
 // The child of a slot whose key comes first, of a slot that has one.
 #[tactic(auto, using(crate::proofs::Sifts::left_first, crate::proofs::Sifts::right_first))]
-fn first_child<K: Key>(cells: &[Cell<K>], size: usize, slot: usize) -> usize
+fn first_child<K: Key>(cells: &[Cell<K>], size: usize, slot: usize) -> Entry<K>
     requires few { slot < 64 }
     requires some { 2 * slot + 1 < size }
-    ensures { FirstChild K.Key.before (key_at (columns cells.now)) size slot result }
+    ensures first { FirstChild K.Key.before (key_at (columns cells.now)) size slot result.slot }
+    ensures read { Reads (columns cells.now) result }
 {
-    let left = 2 * slot + 1;
-    let right = left + 1;
-    if right < size && is_sooner_at(cells, right, left) {
-        right
-    } else {
-        left
+    let left = entry_at(cells, 2 * slot + 1);
+    if left.slot + 1 < size {
+        let right = entry_at(cells, left.slot + 1);
+        if is_sooner(right.key, left.key) {
+            return right;
+        }
     }
+    left
 }
 
-// The same where its key comes sooner than that of the slot, or else none.
-fn sooner_child<K: Key>(cells: &[Cell<K>], size: usize, slot: usize) -> Option<usize>
+// The same where its key comes sooner than the given one, or else none.
+fn sooner_child<K: Key>(cells: &[Cell<K>], size: usize, slot: usize, key: K) -> Option<Entry<K>>
     requires { slot < 64 }
-    ensures { SoonerChild K.Key.before (key_at (columns cells.now)) size slot result }
+    ensures { SoonerChild K.Key.before (columns cells.now) size slot key result }
 {
     if 2 * slot + 1 >= size {
         return None;
     }
     let child = first_child(cells, size, slot);
-    is_sooner_at(cells, child, slot).then_some(child)
+    is_sooner(child.key, Some(key)).then_some(child)
 }
 
-// Exchanges the ticket in a slot with that of a child slot while the child's key comes sooner.
-pub fn sift_down<K: Key>(cells: &mut [Cell<K>], size: usize, slot: usize)
+// Brings a ticket with its key from a slot down to where the key belongs.
+pub fn sift_down<K: Key>(cells: &mut [Cell<K>], size: usize, slot: usize, ticket: usize, key: K)
     requires few { size ≤ 64 }
     requires within { slot < size }
-    ensures { SiftsDown K.Key.before (columns cells.old) (columns cells.new) size slot }
+    ensures { key_of (columns cells.old) ticket ≡ Some key → SiftsDown K.Key.before (seated (columns cells.old) slot ticket) (columns cells.new) size slot }
 {
     let mut at = slot;
-    while let Some(child) = sooner_child(cells, size, at) {
-        exchange(cells, at, child);
-        at = child;
+    while let Some(child) = sooner_child(cells, size, at, key) {
+        seat(cells, at, child.ticket);
+        at = child.slot;
     }
+    seat(cells, at, ticket);
 }
 
-// Brings the ticket in a slot to where its key belongs, up or down.
-#[tactic(auto, using(crate::proofs::Sifting::loose_top, crate::proofs::Sifting::loose_down))]
-pub fn sift<K: Key>(cells: &mut [Cell<K>], size: usize, slot: usize)
+// Brings a ticket with its key from a slot to where the key belongs, up or down.
+pub fn sift<K: Key>(cells: &mut [Cell<K>], size: usize, slot: usize, ticket: usize, key: K)
     requires few { size ≤ 64 }
     requires within { slot < size }
-    ensures { Sifts K.Key.before (columns cells.old) (columns cells.new) size slot }
+    ensures { key_of (columns cells.old) ticket ≡ Some key → Sifts K.Key.before (seated (columns cells.old) slot ticket) (columns cells.new) size slot }
 {
-    if slot > 0 && is_sooner_at(cells, slot, (slot - 1) / 2) {
-        sift_up(cells, slot);
-    } else {
-        sift_down(cells, size, slot);
+    match later_parent(cells, slot, key) {
+        Some(_) => sift_up(cells, slot, ticket, key),
+        None => sift_down(cells, size, slot, ticket, key),
     }
 }

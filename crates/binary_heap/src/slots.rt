@@ -1,9 +1,8 @@
 ghost use Rattle.std.specs.Prelude.{◌≡◌, ◌<◌, length};
-ghost use Rattle.event_queue.specs.Orders.{sooner};
-ghost use Rattle.binary_heap.specs.Slots.{columns, slot_of, ticket_at, key_at, with_key, with_ticket, with_slot, seated, exchanged};
+ghost use Rattle.binary_heap.specs.Slots.{columns, key_of, slot_of, ticket_at, Reads, with_key, with_ticket, with_slot, seated};
 
 use crate::cell::Cell;
-use event_queue::key::{Key, is_sooner};
+use event_queue::key::Key;
 
 // Slot and ticket have a function each to read and to write: they differ in the field and are short.
 
@@ -21,19 +20,33 @@ pub fn slot_of<K: Key>(cells: &[Cell<K>], ticket: usize) -> usize
     cells.get(ticket).map_or(0, |cell| cell.slot)
 }
 
-// The key of the ticket in a slot.
-#[tactic(auto, unfolding(crate::specs::Slots::key_at))]
-pub fn key_at<K: Key>(cells: &[Cell<K>], slot: usize) -> Option<K>
-    ensures { result ≡ key_at (columns cells.now) slot }
+// The key that a ticket holds, or none.
+pub fn key_of<K: Key>(cells: &[Cell<K>], ticket: usize) -> Option<K>
+    ensures { result ≡ key_of (columns cells.now) ticket }
 {
-    cells.get(ticket_at(cells, slot))?.key
+    cells.get(ticket)?.key
 }
 
-// Whether the key in the first of two slots comes before that in the second.
-pub fn is_sooner_at<K: Key>(cells: &[Cell<K>], a: usize, b: usize) -> bool
-    ensures { result ≡ sooner K.Key.before (key_at (columns cells.now) a) (key_at (columns cells.now) b) }
+// What stands in a slot: the ticket, and the key that it holds or none.
+#[derive(Clone, Copy)]
+pub struct Entry<K> {
+    pub slot: usize,
+    pub ticket: usize,
+    pub key: Option<K>,
+}
+
+// Reads what stands in a slot.
+#[tactic(auto, unfolding(crate::specs::Slots::key_at))]
+pub fn entry_at<K: Key>(cells: &[Cell<K>], slot: usize) -> Entry<K>
+    ensures slot { result.slot ≡ slot }
+    ensures read { Reads (columns cells.now) result }
 {
-    is_sooner(key_at(cells, a), key_at(cells, b))
+    let ticket = ticket_at(cells, slot);
+    Entry {
+        slot,
+        ticket,
+        key: key_of(cells, ticket),
+    }
 }
 
 // The writes below compare the number themselves, since nothing is promised of what a slice holds after a
@@ -76,15 +89,4 @@ pub fn seat<K: Key>(cells: &mut [Cell<K>], slot: usize, ticket: usize)
 {
     set_ticket(cells, slot, ticket);
     set_slot(cells, ticket, slot);
-}
-
-// Exchanges the tickets of two slots.
-#[tactic(auto, using(crate::proofs::Columns::exchange_columns))]
-pub fn exchange<K: Key>(cells: &mut [Cell<K>], a: usize, b: usize)
-    ensures { columns cells.new ≡ exchanged (columns cells.old) a b }
-{
-    let first = ticket_at(cells, a);
-    let second = ticket_at(cells, b);
-    seat(cells, a, second);
-    seat(cells, b, first);
 }

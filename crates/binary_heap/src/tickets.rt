@@ -5,7 +5,7 @@ ghost use Rattle.binary_heap.specs.Sound.{Sound, Inserts, Removes};
 
 use crate::cell::Cell;
 use crate::sift::{sift, sift_up};
-use crate::slots::{seat, set_key, slot_of, ticket_at};
+use crate::slots::{entry_at, set_key, slot_of};
 use event_queue::cells::{capacity, held};
 use event_queue::key::Key;
 
@@ -17,8 +17,7 @@ fn insert<K: Key>(cells: &mut [Cell<K>], size: usize, ticket: usize, key: K)
     ensures { Inserts K.Key.before cells.old cells.new size (size + 1) ticket key }
 {
     set_key(cells, ticket, Some(key));
-    seat(cells, size, ticket);
-    sift_up(cells, size);
+    sift_up(cells, size, ticket, key);
 }
 
 // Takes the key of a ticket away, in a heap of `size` tickets: the ticket in the last slot takes its slot.
@@ -29,11 +28,13 @@ fn remove<K: Key>(cells: &mut [Cell<K>], size: usize, ticket: usize)
 {
     let slot = slot_of(cells, ticket);
     let last = size - 1;
-    let moved = ticket_at(cells, last);
     set_key(cells, ticket, None);
-    seat(cells, slot, moved);
-    if slot < last {
-        sift(cells, last, slot);
+    if slot >= last {
+        return;
+    }
+    let moved = entry_at(cells, last);
+    if let Some(key) = moved.key {
+        sift(cells, last, slot, moved.ticket, key);
     }
 }
 

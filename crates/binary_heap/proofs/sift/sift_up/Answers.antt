@@ -1,16 +1,14 @@
-use Rattle.std.proofs.Common.{sym, arith}
-use Rattle.binary_heap.specs.Slots.{columns}
-use Rattle.binary_heap.proofs.Sifts.{cells_even, rise_step, rise_top, rise_stop}
+use Rattle.binary_heap.specs.Slots.{columns, seated}
+use Rattle.binary_heap.proofs.Sifts.{cells_even, rise_move, rise_seat}
 use Rattle.binary_heap.proofs.sift.sift_up.Goals as goal
 
-pub returns-then-not-is_sooner_at : goal.returns-then-not-is_sooner_at
-returns-then-not-is_sooner_at g c n h l u =
-    rise_stop g.K.Key.before (columns c.args.cells.now) (columns c.loop-at.cells) n c.loop-at.at (sym c.if-not-is_sooner_at.ensures) (c.loop-at.invariant n h l u)
-
-pub loop-at-preserved : goal.loop-at-preserved
-loop-at-preserved g c n h l u =
-    rise_step g.K.Key.before (columns c.args.cells.now) (columns c.loop-at.cells) (columns c.exchange.new.cells) n c.loop-at.at
-    (record { asymmetric = g.met.K.Key.asymmetric; carries = g.met.K.Key.carries }) (cells_even c.loop-at.cells) (omega arith) (sym c.if-not-is_sooner_at.ensures) c.exchange.ensures (c.loop-at.invariant n h l u)
+pub loop-above-preserved : goal.loop-above-preserved
+loop-above-preserved g c n h held l u =
+    let f = c.in-Some.ensures in
+    rise_move g.K.Key.before (record { asymmetric = g.met.K.Key.asymmetric; carries = g.met.K.Key.carries }) (seated (columns c.args.cells.now) c.args.slot c.args.ticket) (columns c.loop-above.cells) (columns c.seat.new.cells) (cells_even c.loop-above.cells) n c.loop-above.at c.args.ticket c.args.key held
+    c.in-Some.above f.0 f.1 f.2 c.seat.ensures (c.loop-above.invariant n h held l u)
 
 pub returns : goal.returns
-returns g c n h l u = rise_top g.K.Key.before (columns c.args.cells.now) (columns c.loop-at.cells) n c.loop-at.at (omega arith) (c.loop-at.invariant n h l u)
+returns g c n h held l u =
+    rise_seat g.K.Key.before (record { asymmetric = g.met.K.Key.asymmetric; carries = g.met.K.Key.carries }) (seated (columns c.args.cells.now) c.args.slot c.args.ticket) (columns c.loop-above.cells) (columns c.seat-2.new.cells) (cells_even c.loop-above.cells) n c.loop-above.at c.args.ticket c.args.key held
+    c.in_default.ensures c.seat-2.ensures (c.loop-above.invariant n h held l u)

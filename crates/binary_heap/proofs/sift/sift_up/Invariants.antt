@@ -1,13 +1,14 @@
-use Rattle.std.proofs.Common.{ℕ, ◌<◌}
-use Rattle.binary_heap.specs.Slots.{columns, key_at, Linked}
+use Rattle.std.proofs.Common.{◌≡◌, ℕ, ◌<◌, Some}
+use Rattle.binary_heap.specs.Slots.{columns, key_of, key_at, seated, Linked}
 use Rattle.binary_heap.specs.Orders.{Upward}
 use Rattle.binary_heap.proofs.Sifts.{Rising}
 use Rattle.binary_heap.proofs.sift.sift_up.Given as goal
 
-abbrev pub invariant-loop-at : goal.invariant-loop-at
-invariant-loop-at g l =
-    (n : ℕ) → l.slot < n → Linked (columns l.initial.cells) n → Upward g.K.Key.before (key_at (columns l.initial.cells)) n l.slot →
-    Rising g.K.Key.before (columns l.initial.cells) (columns l.cells) n l.at
+abbrev pub invariant-loop-above : goal.invariant-loop-above
+invariant-loop-above g l =
+    (n : ℕ) → l.slot < n → key_of (columns l.initial.cells) l.ticket ≡ Some l.key →
+    Linked (seated (columns l.initial.cells) l.slot l.ticket) n → Upward g.K.Key.before (key_at (seated (columns l.initial.cells) l.slot l.ticket)) n l.slot →
+    Rising g.K.Key.before (seated (columns l.initial.cells) l.slot l.ticket) (seated (columns l.cells) l.at l.ticket) n l.at
 
-abbrev pub decreases-loop-at : goal.decreases-loop-at
-decreases-loop-at g l = l.at
+abbrev pub decreases-loop-above : goal.decreases-loop-above
+decreases-loop-above g l = l.at

@@ -1,6 +1,6 @@
-use Rattle.std.proofs.Common.{Some}
-use Rattle.binary_heap.specs.Slots.{columns}
-use Rattle.binary_heap.proofs.Heaps.{written, insert_settles, inserted}
+use Rattle.std.proofs.Common.{ap}
+use Rattle.binary_heap.specs.Slots.{columns, seated}
+use Rattle.binary_heap.proofs.Heaps.{insert_settles, given_key, inserted}
 use Rattle.binary_heap.proofs.tickets.insert.Goals as goal
 
 pub returns : goal.returns
@@ -9,7 +9,8 @@ returns g c s h free =
     let cs = c.args.cells.now in
     let n = c.args.size in
     let i = c.args.ticket in
-    let u = columns c.seat.new.cells in
-    inserted before cs c.sift_up.new.cells n i c.args.key s h free
-    (insert_settles before cs c.sift_up.new.cells n i c.args.key s h free u
-    (written (columns cs) (columns c.set_key.new.cells) u i (Some c.args.key) n i c.set_key.ensures c.seat.ensures) c.sift_up.ensures)
+    let k = c.args.key in
+    let u = columns c.set_key.new.cells in
+    inserted before cs c.sift_up.new.cells n i k s h free
+    (insert_settles before cs c.sift_up.new.cells n i k s h free (seated u n i) (ap (λ w. seated w n i) c.set_key.ensures)
+    (λ m b. c.sift_up.ensures m b (given_key before cs c.sift_up.new.cells n i k s h free u c.set_key.ensures)))
