@@ -6,8 +6,7 @@ use Rattle.event_queue.proofs.Orders.{Total}
 use Rattle.event_queue.proofs.Counts.{count_none, count_more, count_room, count_some}
 use Rattle.std.proofs.lemmas.List.{get_or-set_same}
 use Rattle.binary_heap.specs.declared.cell.Cell.{Cell}
-use Rattle.binary_heap.specs.declared.slots.Entry.{Entry}
-use Rattle.binary_heap.specs.Slots.{Columns, columns, cell_key, key_of, slot_of, ticket_at, key_at, with_key, seated, Seat, Linked, Reads}
+use Rattle.binary_heap.specs.Slots.{Columns, columns, cell_key, key_of, slot_of, ticket_at, key_at, with_key, seated, Seat, Linked}
 use Rattle.binary_heap.specs.Orders.{Upward, Loose}
 use Rattle.binary_heap.specs.Sifts.{Settled}
 use Rattle.binary_heap.specs.Sound.{Sound, Keyed}
@@ -83,30 +82,30 @@ module _ {K : Type 0} (before : K → K → Bool) (cells cells' : List (Cell K))
         keys = z.keys;
       }
 
--- the key in what was read of a slot is that of its ticket
-entry_key : {K : Type 0} (u : Columns K) (m : Entry K) (k : K) → Reads u m → m.key ≡ Some k → key_of u m.ticket ≡ Some k
+-- the key that is read of a slot is that of its ticket
+slot_key : {K : Type 0} (u : Columns K) (s i : ℕ) (k : K) → i ≡ ticket_at u s → key_at u s ≡ Some k → key_of u i ≡ Some k
 unfolding key_at
-entry_key u m k r e = ap (key_of u) r.0 ∙ sym r.1 ∙ e
+slot_key u s i k ei e = ap (key_of u) ei ∙ e
 
 -- a removal as the code makes it: with a sift, and at the last slot without
 module _ {K : Type 0} (before : K → K → Bool) (cells cells' : List (Cell K)) (n i : ℕ) (k : K) (S : Sound before cells n) (held : key_of (columns cells) i ≡ Some k) (s : ℕ) (es : s ≡ slot_of (columns cells) i) (u : Columns K) (eu : u ≡ with_key (columns cells) i None) where
-  -- the ticket of the last slot m was read after the key was written
-  module _ (h : s < n - 1) (m : Entry K) (em : m.slot ≡ n - 1) (r : Reads u m) where
-    last_ticket : m.ticket ≡ ticket_at (columns cells) (n - 1)
-    last_ticket = r.0 ∙ ap (ticket_at u) em ∙ ap (λ w. ticket_at w (n - 1)) eu
+  -- the ticket m of the last slot was read after the key was written
+  module _ (h : s < n - 1) (m : ℕ) (em : m ≡ ticket_at u (n - 1)) where
+    last_ticket : m ≡ ticket_at (columns cells) (n - 1)
+    last_ticket = em ∙ ap (λ w. ticket_at w (n - 1)) eu
 
-    seated_as : seated u s m.ticket ≡ seated (with_key (columns cells) i None) (slot_of (columns cells) i) (ticket_at (columns cells) (n - 1))
-    seated_as = ap (λ w. seated w s m.ticket) eu ∙ ap (λ z. seated (with_key (columns cells) i None) z m.ticket) es ∙ ap (λ z. seated (with_key (columns cells) i None) (slot_of (columns cells) i) z) last_ticket
+    seated_as : seated u s m ≡ seated (with_key (columns cells) i None) (slot_of (columns cells) i) (ticket_at (columns cells) (n - 1))
+    seated_as = ap (λ w. seated w s m) eu ∙ ap (λ z. seated (with_key (columns cells) i None) z m) es ∙ ap (λ z. seated (with_key (columns cells) i None) (slot_of (columns cells) i) z) last_ticket
 
-    pub remove_sifted : Total before → (k' : K) → m.key ≡ Some k' → (key_of u m.ticket ≡ Some k' → Linked (seated u s m.ticket) (n - 1) → Loose before (key_at (seated u s m.ticket)) (n - 1) s → Settled before (seated u s m.ticket) (columns cells') (n - 1)) → Keyed before cells cells' (n - 1) i None
+    pub remove_sifted : Total before → (k' : K) → key_at u (n - 1) ≡ Some k' → (key_of u m ≡ Some k' → Linked (seated u s m) (n - 1) → Loose before (key_at (seated u s m)) (n - 1) s → Settled before (seated u s m) (columns cells') (n - 1)) → Keyed before cells cells' (n - 1) i None
     remove_sifted o k' ek sift =
         removed before cells cells' n i k S held
-        (remove_settles before cells cells' n i k S held o (seated u s m.ticket) seated_as (subst (λ z. z < n - 1) es h)
-        (λ l w. sift (entry_key u m k' r ek) l (subst (λ z. Loose before (key_at (seated u s m.ticket)) (n - 1) z) (sym es) w)))
+        (remove_settles before cells cells' n i k S held o (seated u s m) seated_as (subst (λ z. z < n - 1) es h)
+        (λ l w. sift (slot_key u (n - 1) m k' em ek) l (subst (λ z. Loose before (key_at (seated u s m)) (n - 1) z) (sym es) w)))
 
-    pub last_keyed : ((k' : K) → m.key ≡ Some k' → ⊥) → ⊥
-    last_keyed none =
-        none _ (r.1 ∙ ap (key_at u) em ∙ ap (λ w. key_at w (n - 1)) eu ∙ last_holds before (columns cells) (cells_even cells) n i k S.linked (some_held before cells cells' n i k S held) held (subst (λ z. z < n - 1) es h))
+  pub last_keyed : s < n - 1 → key_at u (n - 1) ≡ None → ⊥
+  last_keyed h none =
+      some_none (key_at u (n - 1)) _ (ap (λ w. key_at w (n - 1)) eu ∙ last_holds before (columns cells) (cells_even cells) n i k S.linked (some_held before cells cells' n i k S held) held (subst (λ z. z < n - 1) es h)) none
 
   pub remove_unsifted : n - 1 ≤ s → columns cells' ≡ u → Keyed before cells cells' (n - 1) i None
   remove_unsifted h e =

@@ -3,9 +3,10 @@ use Rattle.std.proofs.Common.{◌≡◌, ℕ, ◌+◌, ◌*◌, ◌<◌, ◌≤�
 use Rattle.std.proofs.lemmas.Bool.{cases_eq}
 use Rattle.event_queue.specs.Orders.{sooner}
 use Rattle.event_queue.proofs.Orders.{Total, sooner_asymmetric, sooner_carries, sooner_itself}
+use Rattle.event_queue.proofs.Options.{some_none}
 use Rattle.binary_heap.specs.declared.cell.Cell.{Cell}
 use Rattle.binary_heap.specs.Slots.{Columns, columns, key_of, ticket_at, key_at, seated, Linked}
-use Rattle.binary_heap.specs.Orders.{parent, Upward, Downward, Loose, FirstChild}
+use Rattle.binary_heap.specs.Orders.{parent, Upward, Downward, Loose, FirstChild, Filled}
 use Rattle.binary_heap.specs.Sifts.{Settled}
 use Rattle.binary_heap.proofs.Columns.{key_length, slot_length, ticket_length}
 use Rattle.binary_heap.proofs.Seats.{Even, exchanged, exchange_linked, exchange_first, exchange_second, exchange_others, seated_even, move_exchanges, move_here, move_there}
@@ -67,6 +68,25 @@ module _ {K : Type 0} (before : K → K → Bool) (t u : Columns K) (n s : ℕ) 
   pub sink_stop : ((c : ℕ) → 0 < c → c < n → parent c ≡ s → sooner before (key_at u c) (key_at u s) ≡ false) → Sinking before t u n s → Settled before t u n
   sink_stop none r = record { keys = r.keys; linked = r.linked; ordered = down_stop before (key_at u) n s none r.downward }
 
+-- the first n slots of linked columns are filled
+pub filled_key : {K : Type 0} (t : Columns K) (n : ℕ) (l : Linked t n) (c : ℕ) (h : c < n) → key_at t c ≡ Some (l.seats c h).key
+unfolding key_at
+filled_key t n l c h = (l.seats c h).holds
+
+-- where the ticket i is in hand, the slots other than s are those of u
+module _ {K : Type 0} (before : K → K → Bool) (u : Columns K) (even : Even u) (n s i : ℕ) (hs : s < n) (l : Linked (seated u s i) n) where
+  rest_key : (c : ℕ) (h : c < n) → s ≢ c → key_at u c ≡ Some (l.seats c h).key
+  rest_key c h ne = sym (move_there u even s c i (omega (arith, hs, l.room)) ne) ∙ filled_key (seated u s i) n l c h
+
+  pub rest_filled : Filled before u n s
+  rest_filled c h ne e = some_none (key_at u c) (l.seats c h).key (rest_key c h (λ z. ne (sym z))) e
+
+  pub not_later : (k : K) → ((above : K) → 0 < s → key_at u (parent s) ≡ Some above → before k above ≡ false) → 0 < s → sooner before (Some k) (key_at u (parent s)) ≡ false
+  not_later k none p =
+      let hp : parent s < n = omega (arith, hs) in
+      let e = rest_key (parent s) hp (λ z. omega arith) in
+      ap (λ y. sooner before (Some k) y) e ∙ none (l.seats (parent s) hp).key p e
+
 -- A sift that has the ticket i, with the key k, in hand: it began with t, and has come to u and the slot s, in which i is
 -- seated at last. At each step it writes the ticket x of another slot into s, and goes on from that slot.
 module _ {K : Type 0} (before : K → K → Bool) (o : Total before) (t u v : Columns K) (even : Even u) (n s i : ℕ) (k : K) (held : key_of t i ≡ Some k) where
@@ -90,8 +110,9 @@ module _ {K : Type 0} (before : K → K → Bool) (o : Total before) (t u v : Co
       (ap (λ y. sooner before y (key_at (seated u s i) (parent s))) (seated_key r.keys hl) ∙ ap (λ y. sooner before (Some k) y) (other_key (parent s) hl ne) ∙ e)
       (exchanged_from (parent s) x hl ne ex ev) r
 
-  pub rise_seat : (0 < s → sooner before (Some k) (key_at u (parent s)) ≡ false) → v ≡ seated u s i → Rising before t (seated u s i) n s → Settled before t v n
-  rise_seat e ev r =
+  pub rise_seat : ((above : K) → 0 < s → key_at u (parent s) ≡ Some above → before k above ≡ false) → v ≡ seated u s i → Rising before t (seated u s i) n s → Settled before t v n
+  rise_seat none ev r =
+      let e = not_later before u even n s i r.within r.linked k none in
       let hl : s < length u.key = omega (arith, r.within, r.linked.room) in
       subst (λ w. Settled before t w n) (sym ev)
       (⊎_elim
@@ -114,12 +135,12 @@ module _ {K : Type 0} (before : K → K → Bool) (o : Total before) (t u v : Co
       (ap (λ y. sooner before (key_at (seated u s i) m) y) (seated_key r.keys hl) ∙ ap (λ y. sooner before y (Some k)) (other_key m hl ne) ∙ e)
       (exchanged_from m x hl ne ex ev) r
 
-  pub sink_seat : s < n → ((c : ℕ) → 0 < c → c < n → parent c ≡ s → sooner before (key_at u c) (Some k) ≡ false) → v ≡ seated u s i → Sinking before t (seated u s i) n s → Settled before t v n
+  pub sink_seat : s < n → (Filled before u n s → (c : ℕ) → 0 < c → c < n → parent c ≡ s → sooner before (key_at u c) (Some k) ≡ false) → v ≡ seated u s i → Sinking before t (seated u s i) n s → Settled before t v n
   sink_seat hs none ev r =
       let hl : s < length u.key = omega (arith, hs, r.linked.room) in
       subst (λ w. Settled before t w n) (sym ev)
       (sink_stop before t (seated u s i) n s
-      (λ c p b q. later_as before (key_at u c) _ (Some k) _ (other_key c hl (λ z. omega arith)) (seated_key r.keys hl) (none c p b q)) r)
+      (λ c p b q. later_as before (key_at u c) _ (Some k) _ (other_key c hl (λ z. omega arith)) (seated_key r.keys hl) (none (rest_filled before u even n s i hs r.linked) c p b q)) r)
 
 -- where a ticket with its key belongs, from the slot s in which it is seated
 module _ {K : Type 0} (before : K → K → Bool) (o : Total before) (u : Columns K) (even : Even u) (n s i : ℕ) (k : K) (held : key_of u i ≡ Some k) (hs : s < n) (l : Linked (seated u s i) n) where
@@ -135,12 +156,12 @@ module _ {K : Type 0} (before : K → K → Bool) (o : Total before) (u : Column
   pub belongs_up : 0 < s → sooner before (Some k) (key_at u (parent s)) ≡ true → Loose before (key_at (seated u s i)) n s → Upward before (key_at (seated u s i)) n s
   belongs_up p e = loose_up before (key_at (seated u s i)) n s o p (ap (λ y. sooner before y (key_at (seated u s i) (parent s))) here ∙ ap (λ y. sooner before (Some k) y) (above p) ∙ e)
 
-  pub belongs_down : (0 < s → sooner before (Some k) (key_at u (parent s)) ≡ false) → Loose before (key_at (seated u s i)) n s → Downward before (key_at (seated u s i)) n s
+  pub belongs_down : ((above : K) → 0 < s → key_at u (parent s) ≡ Some above → before k above ≡ false) → Loose before (key_at (seated u s i)) n s → Downward before (key_at (seated u s i)) n s
   belongs_down e w =
       ⊎_elim
       (λ z. loose_top before (key_at (seated u s i)) n s z w)
       (λ z. let p : 0 < s = omega arith in
-      loose_down before (key_at (seated u s i)) n s (later_as before (Some k) _ (key_at u (parent s)) _ here (above p) (e p)) w)
+      loose_down before (key_at (seated u s i)) n s (later_as before (Some k) _ (key_at u (parent s)) _ here (above p) (not_later before u even n s i hs l k e p)) w)
       (cases_eq s 0)
 
 -- the children of a slot

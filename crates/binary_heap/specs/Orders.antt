@@ -42,9 +42,18 @@ module _ {K : Type 0} (before : K → K → Bool) (t : Columns K) where
   -- the ticket in the parent of the slot s, which has a later key than k; none where s is the top or has no later parent
   abbrev pub LaterParent : ℕ → K → Option ℕ → Type 0
   LaterParent s k (Some x) = (0 < s) × (x ≡ ticket_at t (parent s)) × (sooner before (Some k) (key_at t (parent s)) ≡ true)
-  LaterParent s k None = 0 < s → sooner before (Some k) (key_at t (parent s)) ≡ false
+  LaterParent s k None = (above : K) → 0 < s → key_at t (parent s) ≡ Some above → before k above ≡ false
 
-  -- a first child of the slot s among n, which comes sooner than k; none where no child of s does
+  -- the slots below n other than s have tickets that hold keys
+  abbrev pub Filled : ℕ → ℕ → Type 0
+  Filled n s = (c : ℕ) → c < n → (c ≢ s) → (key_at t c ≢ None)
+
+  -- a first child of the slot s among n, as it was read; none only where not all slots are filled
+  abbrev pub FirstKeyed : ℕ → ℕ → Option (Entry K) → Type 0
+  FirstKeyed n s (Some m) = FirstChild before (key_at t) n s m.slot × (m.ticket ≡ ticket_at t m.slot) × (key_at t m.slot ≡ Some m.key)
+  FirstKeyed n s None = Filled n s → ⊥
+
+  -- one that comes sooner than k; none where no child of s does
   abbrev pub SoonerChild : ℕ → ℕ → K → Option (Entry K) → Type 0
   SoonerChild n s k (Some m) = FirstChild before (key_at t) n s m.slot × (m.ticket ≡ ticket_at t m.slot) × (sooner before (key_at t m.slot) (Some k) ≡ true)
-  SoonerChild n s k None = (c : ℕ) → 0 < c → c < n → parent c ≡ s → sooner before (key_at t c) (Some k) ≡ false
+  SoonerChild n s k None = Filled n s → (c : ℕ) → 0 < c → c < n → parent c ≡ s → sooner before (key_at t c) (Some k) ≡ false

@@ -33,9 +33,10 @@ ticket_at t s = slice_index t.ticket s
 unfoldable pub key_at : {K : Type 0} → Columns K → ℕ → Option K
 key_at t s = key_of t (ticket_at t s)
 
--- what was read of a slot is what stands there
-abbrev pub Reads : {K : Type 0} → Columns K → Entry K → Type 0
-Reads t e = (e.ticket ≡ ticket_at t e.slot) × (e.key ≡ key_at t e.slot)
+-- what is read of the slot s: the ticket there and its key, or none where it holds none
+abbrev pub Reads : {K : Type 0} → Columns K → ℕ → Option (Entry K) → Type 0
+Reads t s (Some e) = (e.slot ≡ s) × (e.ticket ≡ ticket_at t s) × (key_at t s ≡ Some e.key)
+Reads t s None = key_at t s ≡ None
 
 -- the ticket i holds k
 abbrev pub with_key : {K : Type 0} → Columns K → ℕ → Option K → Columns K

@@ -1,17 +1,8 @@
 ghost use Rattle.std.specs.Prelude.{◌≡◌, ◌<◌, length};
-ghost use Rattle.binary_heap.specs.Slots.{columns, key_of, slot_of, ticket_at, Reads, with_key, with_ticket, with_slot, seated};
+ghost use Rattle.binary_heap.specs.Slots.{columns, key_of, slot_of, Reads, with_key, with_ticket, with_slot, seated};
 
 use crate::cell::Cell;
 use event_queue::key::Key;
-
-// Slot and ticket have a function each to read and to write: they differ in the field and are short.
-
-// The ticket in a slot.
-pub fn ticket_at<K: Key>(cells: &[Cell<K>], slot: usize) -> usize
-    ensures { result ≡ ticket_at (columns cells.now) slot }
-{
-    cells.get(slot).map_or(0, |cell| cell.ticket)
-}
 
 // The slot of a ticket.
 pub fn slot_of<K: Key>(cells: &[Cell<K>], ticket: usize) -> usize
@@ -21,35 +12,32 @@ pub fn slot_of<K: Key>(cells: &[Cell<K>], ticket: usize) -> usize
 }
 
 // The key that a ticket holds, or none.
-pub fn key_of<K: Key>(cells: &[Cell<K>], ticket: usize) -> Option<K>
+fn key_of<K: Key>(cells: &[Cell<K>], ticket: usize) -> Option<K>
     ensures { result ≡ key_of (columns cells.now) ticket }
 {
     cells.get(ticket)?.key
 }
 
-// What stands in a slot: the ticket, and the key that it holds or none.
+// What stands in a slot: a ticket and the key that it holds.
 #[derive(Clone, Copy)]
 pub struct Entry<K> {
     pub slot: usize,
     pub ticket: usize,
-    pub key: Option<K>,
+    pub key: K,
 }
 
-// Reads what stands in a slot.
-#[tactic(auto, unfolding(crate::specs::Slots::key_at))]
-pub fn entry_at<K: Key>(cells: &[Cell<K>], slot: usize) -> Entry<K>
-    ensures slot { result.slot ≡ slot }
-    ensures read { Reads (columns cells.now) result }
+// Reads what stands in a slot: none where the ticket there holds no key.
+#[tactic(auto, using(crate::proofs::Columns::ticket_read), unfolding(crate::specs::Slots::key_at))]
+pub fn entry_at<K: Key>(cells: &[Cell<K>], slot: usize) -> Option<Entry<K>>
+    requires { slot < length cells.now }
+    ensures { Reads (columns cells.now) slot result }
 {
-    let ticket = ticket_at(cells, slot);
-    Entry {
-        slot,
-        ticket,
-        key: key_of(cells, ticket),
-    }
+    let ticket = cells[slot].ticket;
+    let key = key_of(cells, ticket)?;
+    Some(Entry { slot, ticket, key })
 }
 
-// The writes below compare the number themselves, since nothing is promised of what a slice holds after a
+// Writes by ticket compare the number themselves, since nothing is promised of what a slice holds after a
 // write through its `get_mut`. Each heap has a `set_key` of its own, which promises that the other columns of
 // its cells stay.
 
@@ -64,13 +52,12 @@ pub fn set_key<K: Key>(cells: &mut [Cell<K>], ticket: usize, key: Option<K>)
 }
 
 // Writes the ticket of a slot.
-#[tactic(auto, using(crate::proofs::Columns::ticket_set, crate::proofs::Columns::ticket_unset))]
+#[tactic(auto, using(crate::proofs::Columns::ticket_set))]
 fn set_ticket<K: Key>(cells: &mut [Cell<K>], slot: usize, ticket: usize)
+    requires { slot < length cells.old }
     ensures { columns cells.new ≡ with_ticket (columns cells.old) slot ticket }
 {
-    if slot < cells.len() {
-        cells[slot].ticket = ticket;
-    }
+    cells[slot].ticket = ticket;
 }
 
 // Writes the slot of a ticket.
@@ -85,6 +72,7 @@ fn set_slot<K: Key>(cells: &mut [Cell<K>], ticket: usize, slot: usize)
 
 // Puts a ticket into a slot.
 pub fn seat<K: Key>(cells: &mut [Cell<K>], slot: usize, ticket: usize)
+    requires { slot < length cells.old }
     ensures { columns cells.new ≡ seated (columns cells.old) slot ticket }
 {
     set_ticket(cells, slot, ticket);

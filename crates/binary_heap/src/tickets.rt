@@ -1,4 +1,4 @@
-ghost use Rattle.std.specs.Prelude.{◌≡◌, ◌+◌, ◌-◌, ◌<◌, ◌≤◌, take, drop};
+ghost use Rattle.std.specs.Prelude.{◌≡◌, ◌+◌, ◌-◌, ◌<◌, ◌≤◌, length, take, drop};
 ghost use Rattle.event_queue.specs.Cells.{Earliest};
 ghost use Rattle.binary_heap.specs.Slots.{cell_key};
 ghost use Rattle.binary_heap.specs.Sound.{Sound, Inserts, Removes};
@@ -14,6 +14,7 @@ use event_queue::key::Key;
 
 // Gives a key to a ticket that holds none, in a heap of `size` tickets.
 fn insert<K: Key>(cells: &mut [Cell<K>], size: usize, ticket: usize, key: K)
+    requires { size < length cells.old }
     ensures { Inserts K.Key.before cells.old cells.new size (size + 1) ticket key }
 {
     set_key(cells, ticket, Some(key));
@@ -23,6 +24,7 @@ fn insert<K: Key>(cells: &mut [Cell<K>], size: usize, ticket: usize, key: K)
 // Takes the key of a ticket away, in a heap of `size` tickets: the ticket in the last slot takes its slot.
 fn remove<K: Key>(cells: &mut [Cell<K>], size: usize, ticket: usize)
     requires few { size ≤ 64 }
+    requires room { size ≤ length cells.old }
     requires some { 0 < size }
     ensures { Removes K.Key.before cells.old cells.new size (size - 1) ticket }
 {
@@ -32,9 +34,8 @@ fn remove<K: Key>(cells: &mut [Cell<K>], size: usize, ticket: usize)
     if slot >= last {
         return;
     }
-    let moved = entry_at(cells, last);
-    if let Some(key) = moved.key {
-        sift(cells, last, slot, moved.ticket, key);
+    if let Some(moved) = entry_at(cells, last) {
+        sift(cells, last, slot, moved.ticket, moved.key);
     }
 }
 

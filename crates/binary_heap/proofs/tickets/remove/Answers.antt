@@ -10,11 +10,12 @@ returns-then-slot-last g c k s held =
 
 pub returns-in-Some : goal.returns-in-Some
 returns-in-Some g c k s held =
+    let read = c.in-Some.ensures in
     remove_sifted g.K.Key.before c.args.cells.now c.sift.new.cells c.args.size c.args.ticket k s held c.slot_of-slot.result c.slot_of-slot.ensures (columns c.set_key.new.cells) c.set_key.ensures
-    c.if-slot-last.false c.entry_at-moved.result c.entry_at-moved.ensures.slot c.entry_at-moved.ensures.read
-    (record { asymmetric = g.met.K.Key.asymmetric; carries = g.met.K.Key.carries }) c.in-Some.key c.in-Some.is c.sift.ensures
+    c.if-slot-last.false c.in-Some.moved.ticket read.1
+    (record { asymmetric = g.met.K.Key.asymmetric; carries = g.met.K.Key.carries }) c.in-Some.moved.key read.2 c.sift.ensures
 
 pub returns-in_default : goal.returns-in_default
 returns-in_default g c k s held =
     absurd (last_keyed g.K.Key.before c.args.cells.now c.set_key.new.cells c.args.size c.args.ticket k s held c.slot_of-slot.result c.slot_of-slot.ensures (columns c.set_key.new.cells) c.set_key.ensures
-    c.if-slot-last.false c.entry_at-moved.result c.entry_at-moved.ensures.slot c.entry_at-moved.ensures.read c.in_default.not-Some)
+    c.if-slot-last.false c.in_default.ensures)
