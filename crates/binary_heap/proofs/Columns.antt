@@ -1,8 +1,9 @@
 -- The columns of the cells, through a read and a write.
-use Rattle.std.proofs.Common.{◌≡◌, ℕ, ◌<◌, ◌≤◌, List, length, get_or, set, Option, refl}
+use Rattle.std.proofs.Common.{◌≡◌, ℕ, ◌<◌, ◌≤◌, List, length, get_or, set, Some, None, Option, slice_index_or, refl, arith}
 use Rattle.event_queue.proofs.Columns.{map_kept, map_past}
+use Rattle.event_queue.proofs.Keyed.{held_cell}
 use Rattle.std.proofs.lemmas.List.{map-set, length-map, get_or-map}
-use Rattle.binary_heap.specs.Slots.{Columns, columns, ticket_at, with_key, with_ticket, with_slot}
+use Rattle.binary_heap.specs.Slots.{Columns, columns, cell_key, ticket_at, with_key, with_ticket, with_slot}
 use Rattle.binary_heap.specs.declared.cell.Cell.{Cell}
 
 pub columns_from : {K : Type 0} {k k' : List (Option K)} {s s' i i' : List ℕ} → k ≡ k' → s ≡ s' → i ≡ i' → ◌≡◌ {A = Columns K} (record { key = k; slot = s; ticket = i }) (record { key = k'; slot = s'; ticket = i' })
@@ -32,13 +33,11 @@ module _ {K : Type 0} (cells : List (Cell K)) where
       pub ticket_read : ticket_at (columns cells) i ≡ (get_or cells i d).ticket
       ticket_read = get_or-map (λ c. c.ticket) cells i d 0 h
 
+  -- a ticket that holds a key has a cell
+  pub key_within : (i : ℕ) (k : K) → slice_index_or (columns cells).key i None ≡ Some k → i < length (columns cells).key
+  key_within i k held = omega (arith, held_cell cell_key cells i k held, key_length)
+
   -- a write past the cells does nothing
   module _ (i : ℕ) (h : length cells ≤ i) where
     pub key_unset : (k : Option K) → columns cells ≡ with_key (columns cells) i k
     key_unset k = columns_from (map_past (λ c. c.key) cells i k h) refl refl
-
-    pub slot_unset : (s : ℕ) → columns cells ≡ with_slot (columns cells) i s
-    slot_unset s = columns_from refl (map_past (λ c. c.slot) cells i s h) refl
-
-    pub ticket_unset : (t : ℕ) → columns cells ≡ with_ticket (columns cells) i t
-    ticket_unset t = columns_from refl refl (map_past (λ c. c.ticket) cells i t h)

@@ -35,7 +35,7 @@ key_at t s = key_of t (ticket_at t s)
 
 -- what is read of the slot s: the ticket there and its key, or none where it holds none
 abbrev pub Reads : {K : Type 0} → Columns K → ℕ → Option (Entry K) → Type 0
-Reads t s (Some e) = (e.slot ≡ s) × (e.ticket ≡ ticket_at t s) × (key_at t s ≡ Some e.key)
+Reads t s (Some e) = (e.slot ≡ s) × (e.ticket ≡ ticket_at t s) × (key_at t s ≡ Some e.key) × (e.ticket < length t.key)
 Reads t s None = key_at t s ≡ None
 
 -- the ticket i holds k

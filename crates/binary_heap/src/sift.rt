@@ -23,8 +23,10 @@ fn later_parent<K: Key>(cells: &[Cell<K>], slot: usize, key: K) -> Option<usize>
 }
 
 // Brings a ticket with its key from a slot up to where the key belongs.
+#[tactic(auto, using(crate::proofs::Columns::key_length))]
 pub fn sift_up<K: Key>(cells: &mut [Cell<K>], slot: usize, ticket: usize, key: K)
-    requires { slot < length cells.old }
+    requires slot { slot < length cells.old }
+    requires ticket { ticket < length cells.old }
     ensures { (n : ℕ) → slot < n → key_of (columns cells.old) ticket ≡ Some key → SiftsUp K.Key.before (seated (columns cells.old) slot ticket) (columns cells.new) n slot }
 {
     let mut at = slot;
@@ -67,10 +69,12 @@ fn sooner_child<K: Key>(cells: &[Cell<K>], size: usize, slot: usize, key: K) -> 
 }
 
 // Brings a ticket with its key from a slot down to where the key belongs.
+#[tactic(auto, using(crate::proofs::Columns::key_length))]
 pub fn sift_down<K: Key>(cells: &mut [Cell<K>], size: usize, slot: usize, ticket: usize, key: K)
     requires few { size ≤ 64 }
     requires room { size ≤ length cells.old }
     requires within { slot < size }
+    requires ticket { ticket < length cells.old }
     ensures { key_of (columns cells.old) ticket ≡ Some key → SiftsDown K.Key.before (seated (columns cells.old) slot ticket) (columns cells.new) size slot }
 {
     let mut at = slot;
@@ -86,6 +90,7 @@ pub fn sift<K: Key>(cells: &mut [Cell<K>], size: usize, slot: usize, ticket: usi
     requires few { size ≤ 64 }
     requires room { size ≤ length cells.old }
     requires within { slot < size }
+    requires ticket { ticket < length cells.old }
     ensures { key_of (columns cells.old) ticket ≡ Some key → Sifts K.Key.before (seated (columns cells.old) slot ticket) (columns cells.new) size slot }
 {
     match later_parent(cells, slot, key) {

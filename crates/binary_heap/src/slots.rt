@@ -27,7 +27,7 @@ pub struct Entry<K> {
 }
 
 // Reads what stands in a slot: none where the ticket there holds no key.
-#[tactic(auto, using(crate::proofs::Columns::ticket_read), unfolding(crate::specs::Slots::key_at))]
+#[tactic(auto, using(crate::proofs::Columns::ticket_read, crate::proofs::Columns::key_within), unfolding(crate::specs::Slots::key_at))]
 pub fn entry_at<K: Key>(cells: &[Cell<K>], slot: usize) -> Option<Entry<K>>
     requires { slot < length cells.now }
     ensures { Reads (columns cells.now) slot result }
@@ -37,8 +37,8 @@ pub fn entry_at<K: Key>(cells: &[Cell<K>], slot: usize) -> Option<Entry<K>>
     Some(Entry { slot, ticket, key })
 }
 
-// Writes by ticket compare the number themselves, since nothing is promised of what a slice holds after a
-// write through its `get_mut`. Each heap has a `set_key` of its own, which promises that the other columns of
+// `set_key` compares the number itself, since nothing is promised of what a slice holds after a write through its
+// `get_mut`; slots and tickets come from entries that were read. Each heap has a `set_key` of its own, which promises that the other columns of
 // its cells stay.
 
 // Gives a ticket a key, or none.
@@ -61,18 +61,18 @@ fn set_ticket<K: Key>(cells: &mut [Cell<K>], slot: usize, ticket: usize)
 }
 
 // Writes the slot of a ticket.
-#[tactic(auto, using(crate::proofs::Columns::slot_set, crate::proofs::Columns::slot_unset))]
+#[tactic(auto, using(crate::proofs::Columns::slot_set))]
 fn set_slot<K: Key>(cells: &mut [Cell<K>], ticket: usize, slot: usize)
+    requires { ticket < length cells.old }
     ensures { columns cells.new ≡ with_slot (columns cells.old) ticket slot }
 {
-    if ticket < cells.len() {
-        cells[ticket].slot = slot;
-    }
+    cells[ticket].slot = slot;
 }
 
 // Puts a ticket into a slot.
 pub fn seat<K: Key>(cells: &mut [Cell<K>], slot: usize, ticket: usize)
-    requires { slot < length cells.old }
+    requires slot { slot < length cells.old }
+    requires ticket { ticket < length cells.old }
     ensures { columns cells.new ≡ seated (columns cells.old) slot ticket }
 {
     set_ticket(cells, slot, ticket);

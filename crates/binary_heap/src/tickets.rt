@@ -1,4 +1,4 @@
-ghost use Rattle.std.specs.Prelude.{◌≡◌, ◌+◌, ◌-◌, ◌<◌, ◌≤◌, length, take, drop};
+ghost use Rattle.std.specs.Prelude.{◌≡◌, ◌+◌, ◌-◌, ◌<◌, ◌≤◌, length, min, take, drop};
 ghost use Rattle.event_queue.specs.Cells.{Earliest};
 ghost use Rattle.binary_heap.specs.Slots.{cell_key};
 ghost use Rattle.binary_heap.specs.Sound.{Sound, Inserts, Removes};
@@ -14,7 +14,8 @@ use event_queue::key::Key;
 
 // Gives a key to a ticket that holds none, in a heap of `size` tickets.
 fn insert<K: Key>(cells: &mut [Cell<K>], size: usize, ticket: usize, key: K)
-    requires { size < length cells.old }
+    requires room { size < length cells.old }
+    requires ticket { ticket < length cells.old }
     ensures { Inserts K.Key.before cells.old cells.new size (size + 1) ticket key }
 {
     set_key(cells, ticket, Some(key));
@@ -22,6 +23,7 @@ fn insert<K: Key>(cells: &mut [Cell<K>], size: usize, ticket: usize, key: K)
 }
 
 // Takes the key of a ticket away, in a heap of `size` tickets: the ticket in the last slot takes its slot.
+#[tactic(auto, using(crate::proofs::Columns::key_length))]
 fn remove<K: Key>(cells: &mut [Cell<K>], size: usize, ticket: usize)
     requires few { size ≤ 64 }
     requires room { size ≤ length cells.old }
@@ -53,6 +55,7 @@ pub fn first<K: Key>(cells: &[Cell<K>], size: usize) -> Option<(usize, K)>
 
 // The same as `insert`, in the first 64 cells. It answers the new size.
 pub fn insert_front<K: Key>(cells: &mut [Cell<K>], size: usize, ticket: usize, key: K) -> usize
+    requires { ticket < min (length cells.old) 64 }
     ensures inserts { Inserts K.Key.before (take 64 cells.old) (take 64 cells.new) size result ticket key }
     ensures past { drop 64 cells.new ≡ drop 64 cells.old }
 {
