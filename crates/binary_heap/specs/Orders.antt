@@ -39,7 +39,7 @@ module _ {K : Type 0} (before : K → K → Bool) (at : ℕ → Option K) (n : �
     pub first : (c : ℕ) → 0 < c → c < n → parent c ≡ s → sooner before (at c) (at m) ≡ false
 
 module _ {K : Type 0} (before : K → K → Bool) (t : Columns K) where
-  -- the ticket in the parent of the slot s, which has a later key than k; none where s is the top or has no later parent
+  -- the ticket in the parent of the slot s, which has a cell and a later key than k; none where s is the top or has no later parent
   abbrev pub LaterParent : ℕ → K → Option ℕ → Type 0
   LaterParent s k (Some x) = (0 < s) × (x ≡ ticket_at t (parent s)) × (sooner before (Some k) (key_at t (parent s)) ≡ true) × (x < length t.key)
   LaterParent s k None = (above : K) → 0 < s → key_at t (parent s) ≡ Some above → before k above ≡ false
@@ -48,7 +48,7 @@ module _ {K : Type 0} (before : K → K → Bool) (t : Columns K) where
   abbrev pub Filled : ℕ → ℕ → Type 0
   Filled n s = (c : ℕ) → c < n → (c ≢ s) → (key_at t c ≢ None)
 
-  -- a first child of the slot s among n, as it was read; none only where not all slots are filled
+  -- a first child of the slot s among n, as it was read, with a ticket that has a cell; none only where not all slots are filled
   abbrev pub FirstKeyed : ℕ → ℕ → Option (Entry K) → Type 0
   FirstKeyed n s (Some m) = FirstChild before (key_at t) n s m.slot × (m.ticket ≡ ticket_at t m.slot) × (key_at t m.slot ≡ Some m.key) × (m.ticket < length t.key)
   FirstKeyed n s None = Filled n s → ⊥

@@ -33,7 +33,7 @@ ticket_at t s = slice_index t.ticket s
 unfoldable pub key_at : {K : Type 0} → Columns K → ℕ → Option K
 key_at t s = key_of t (ticket_at t s)
 
--- what is read of the slot s: the ticket there and its key, or none where it holds none
+-- what is read of the slot s: the ticket there, which has a cell, and its key; or none where it holds no key
 abbrev pub Reads : {K : Type 0} → Columns K → ℕ → Option (Entry K) → Type 0
 Reads t s (Some e) = (e.slot ≡ s) × (e.ticket ≡ ticket_at t s) × (key_at t s ≡ Some e.key) × (e.ticket < length t.key)
 Reads t s None = key_at t s ≡ None

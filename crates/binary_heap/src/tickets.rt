@@ -22,7 +22,8 @@ fn insert<K: Key>(cells: &mut [Cell<K>], size: usize, ticket: usize, key: K)
     sift_up(cells, size, ticket, key);
 }
 
-// Takes the key of a ticket away, in a heap of `size` tickets: the ticket in the last slot takes its slot.
+// Takes the key of a ticket away, in a heap of `size` tickets: the ticket in the last slot goes to where it belongs,
+// beginning at the slot that becomes free.
 #[tactic(auto, using(crate::proofs::Columns::key_length))]
 fn remove<K: Key>(cells: &mut [Cell<K>], size: usize, ticket: usize)
     requires few { size ≤ 64 }
