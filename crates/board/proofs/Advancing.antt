@@ -198,6 +198,7 @@ module _ {S Q : Type 0} (m : structures.Meaning S) (n : queues.Meaning Q Stamp) 
         onward = subst (λ l. earlier l (stamp_of b.clock) ≡ false) goal late';
         roster = roster;
         clock = goal;
+        added = total;
         queue = kept;
         passed = λ r. subst (λ l. Passed m n b b' l k (take k rows')) goal (passes b b' k rows rows' late' enough arrived' written total r);
       }

@@ -6,11 +6,9 @@ use Rattle.event_queue.specs.Queues as queues
 use Rattle.fairway.specs.declared.stamp.Stamp.{Stamp}
 use Rattle.kinetic.specs.Structures as structures
 use Rattle.kinetic.specs.Structures.{InOrder, InFront}
-use Rattle.board.specs.Books.{Log, mends_of}
-use Rattle.board.specs.History.{Past, AllHappened, Throughout, AsBooked, Adds}
-use Rattle.board.specs.History.Past.{opened, then}
+use Rattle.board.specs.Books.{mends_of}
+use Rattle.board.specs.History.{AllHappened, AsBooked, Adds}
 use Rattle.board.specs.History.AllHappened.{nothing, next}
-use Rattle.board.specs.History.Throughout.{at_first, after}
 use Rattle.board.specs.Lines.{calls_of, rows_used, events, log_of, Performed}
 use Rattle.board.specs.Outcomes.{Opened, Happened, done, plain_event, rows_event}
 use Rattle.board.specs.Passings.{Written}
@@ -22,6 +20,7 @@ use Rattle.board.specs.declared.call.Outcome.{Outcome}
 use Rattle.board.specs.declared.call.Row.{Row}
 use Rattle.board.specs.declared.refusal.Refusal.{Refusal}
 use Rattle.board.proofs.Pasts.{adds, as_booked}
+use Rattle.board.proofs.Throughout.{past_of, throughout_of}
 
 -- ---- calls that are given no rows
 
@@ -150,16 +149,7 @@ module _ {S Q : Type 0} (m : structures.Meaning S) (n : queues.Meaning Q Stamp) 
       (subst (λ y. Way start asked first b' lines' y (used + mends_of o) (i + 1)) (sym (rest_written used rows new))
       (way_more start asked first b b' lines rows new used i d o lt w h.happened (subst (λ y. Written (mends_of o) y new) (take_rest rows used) v)))
 
-  -- ---- the past that a run of events makes
-  past_on : (start b : Board S Q) (log : Log) → Past m n start [] → AllHappened m n start log b → Past m n b log
-  past_on start b [] p nothing = p
-  past_on start b (e ∷ log) p (next {b' = a} h k) = then (past_on start a log p h) k
-
   module _ (ordered : InOrder m) (leads : InFront m) where
-    booked_on : (start b : Board S Q) (log : Log) → Past m n start [] → AllHappened m n start log b → Throughout m n (AsBooked m n) b log
-    booked_on start b [] p nothing = at_first (as_booked m n ordered leads start [] p)
-    booked_on start b (e ∷ log) p (next {b' = a} h k) = after (booked_on start a log p h) k (as_booked m n ordered leads b (e ∷ log) (then (past_on start a log p h) k))
-
     -- all lines are performed
     pub performed : (old start b : Board S Q) (asked lines : List Line) (first rows : List Row) (used i : ℕ) → length lines ≤ i → Opened m n old.queue start → Way start asked first b lines rows used i → Performed m n old b asked lines first rows used
     performed old start b asked lines first rows used i le o w =
@@ -172,6 +162,6 @@ module _ {S Q : Type 0} (m : structures.Meaning S) (n : queues.Meaning Q Stamp) 
           opened = start;
           was_opened = o;
           happened = h;
-          past = λ s. past_on start b _ (opened s o) h;
-          booked = λ s. booked_on start b _ (opened s o) h;
+          past = λ s. past_of m n old.queue start b (log_of lines rows) s o h;
+          booked = λ s. throughout_of m n (AsBooked m n) (as_booked m n ordered leads) old.queue start b (log_of lines rows) s o h;
         }

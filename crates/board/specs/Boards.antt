@@ -32,7 +32,7 @@ pub record Bounded (clock : Instant) (total load : ℕ) : Type 0 where
 -- ---- the tests of refusals
 
 -- the clock has a fraction
-abbrev pub has_fraction : Instant → Bool
+abbrev pub has_fraction : Stamp → Bool
 has_fraction clock = not (clock.numerator == 0)
 
 -- a speed above 1,000 in size
@@ -52,6 +52,46 @@ abbrev pub steer_out : Option Course → ℤ → ℕ → Bool
 steer_out None speed second = speed_out speed
 steer_out (Some c) speed second = out_of_range (at_speed speed second c)
 
+-- ---- the table of refusals
+
+-- What a refusal depends on: the clock, the course of each vessel aboard, how many vessels there are, the load, and the
+-- capacity of the queue.
+pub record Facts : Type 0 where
+  pub clock : Stamp
+  pub roster : ℕ → Option Course
+  pub count : ℕ
+  pub load : ℕ
+  pub capacity : ℕ
+
+-- The table of refusals: of each call, lent so many rows, from the top. Where it is none, the call is
+-- accepted.
+abbrev pub refusal_of : Facts → Call → ℕ → Option Refusal
+refusal_of f Open lent = None
+refusal_of f (Enter number position speed) lent =
+    topmost (
+    NumberZero when nat_eq number 0 ∷
+    OutOfRange when entry_out position speed ∷
+    ClockHasFraction when has_fraction f.clock ∷
+    AlreadyAboard when is_some (f.roster number) ∷
+    Full when nat_le 64 f.count ∷
+    SmallQueue when nat_lt f.capacity 64 ∷ [])
+refusal_of f (Leave number) lent =
+    topmost (
+    NumberZero when nat_eq number 0 ∷
+    ClockHasFraction when has_fraction f.clock ∷
+    UnknownVessel when not (is_some (f.roster number)) ∷ [])
+refusal_of f (Steer number speed) lent =
+    topmost (
+    NumberZero when nat_eq number 0 ∷
+    OutOfRange when steer_out (f.roster number) speed f.clock.seconds ∷
+    ClockHasFraction when has_fraction f.clock ∷
+    UnknownVessel when not (is_some (f.roster number)) ∷ [])
+refusal_of f (Advance s n d) lent =
+    topmost (
+    NoSuchInstant when is_some (instant_refusal s n d) ∷
+    Early when earlier (goal s n d) f.clock ∷
+    FewRows when nat_lt lent f.load ∷ [])
+
 module _ {S Q : Type 0} (m : structures.Meaning S) (n : queues.Meaning Q Stamp) where
   -- A board is right: its queue is sound, and has a ticket number for each certificate or there is no
   -- vessel; its structure stands at the clock with none due; the queue holds the tickets that the
@@ -63,31 +103,17 @@ module _ {S Q : Type 0} (m : structures.Meaning S) (n : queues.Meaning Q Stamp) 
     pub tickets : Tickets m n b.structure b.queue
     pub total : Bounded b.clock b.total (m.load b.structure)
 
-  -- The table of refusals: of each call, lent so many rows, from the top. Where it is none, the call is
-  -- accepted.
+  -- the facts of a board
+  abbrev pub facts_of : Board S Q → Facts
+  facts_of b =
+      record {
+        clock = stamp_of b.clock;
+        roster = m.roster b.structure;
+        count = m.count b.structure;
+        load = m.load b.structure;
+        capacity = n.capacity b.queue;
+      }
+
+  -- why a board refuses a call that is lent so many rows, or none
   abbrev pub refusal : Board S Q → Call → ℕ → Option Refusal
-  refusal b Open lent = None
-  refusal b (Enter number position speed) lent =
-      topmost (
-      NumberZero when nat_eq number 0 ∷
-      OutOfRange when entry_out position speed ∷
-      ClockHasFraction when has_fraction b.clock ∷
-      AlreadyAboard when is_some (m.roster b.structure number) ∷
-      Full when nat_le 64 (m.count b.structure) ∷
-      SmallQueue when nat_lt (n.capacity b.queue) 64 ∷ [])
-  refusal b (Leave number) lent =
-      topmost (
-      NumberZero when nat_eq number 0 ∷
-      ClockHasFraction when has_fraction b.clock ∷
-      UnknownVessel when not (is_some (m.roster b.structure number)) ∷ [])
-  refusal b (Steer number speed) lent =
-      topmost (
-      NumberZero when nat_eq number 0 ∷
-      OutOfRange when steer_out (m.roster b.structure number) speed b.clock.seconds ∷
-      ClockHasFraction when has_fraction b.clock ∷
-      UnknownVessel when not (is_some (m.roster b.structure number)) ∷ [])
-  refusal b (Advance s n d) lent =
-      topmost (
-      NoSuchInstant when is_some (instant_refusal s n d) ∷
-      Early when earlier (goal s n d) (stamp_of b.clock) ∷
-      FewRows when nat_lt lent (m.load b.structure) ∷ [])
+  refusal b call lent = refusal_of (facts_of b) call lent

@@ -1,5 +1,5 @@
 -- What each call does to a board.
-use Rattle.std.specs.Prelude.{◌≡◌, ℕ, ◌+◌, ◌≤◌, false, List, [], length, take, Some, None, Ok, Err, Option, Result, ◌≢◌}
+use Rattle.std.specs.Prelude.{◌≡◌, ℕ, ◌+◌, ◌-◌, ◌^◌, ◌≤◌, false, min, List, [], length, take, Some, None, Ok, Err, Option, Result, ◌≢◌}
 use Rattle.std.specs.List.{AllByRecursion}
 use Rattle.std.specs.List.Sorted.{IsSortedBy}
 use Rattle.event_queue.specs.Queues as queues
@@ -55,11 +55,13 @@ module _ {S Q : Type 0} (m : structures.Meaning S) (n : queues.Meaning Q Stamp) 
     pub last : Stamp
     pub passings : Passings m (stamp_of b.clock) to b.structure last rows b'.structure
 
-  -- an advance sets the clock, and the courses are as they were
+  -- an advance sets the clock, the courses are as they were, and the mends are added to the total, up to the greatest
+  -- number of 64 bits
   pub record Moved (b b' : Board S Q) (to : Stamp) (mends : ℕ) (rows : List Row) : Type 0 where
     pub onward : earlier to (stamp_of b.clock) ≡ false
     pub roster : (v : ℕ) → m.roster b'.structure v ≡ m.roster b.structure v
     pub clock : stamp_of b'.clock ≡ to
+    pub added : b'.total ≡ min (b.total + mends) (2 ^ 64 - 1)
     pub queue : QueueKept n b.queue b'.queue
     pub passed : Right m n b → Passed b b' to mends rows
 

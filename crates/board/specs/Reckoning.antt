@@ -1,47 +1,31 @@
 -- What comes of a call by the plain book alone, on a board over the sorted list.
-use Rattle.std.specs.Prelude.{◌≡◌, ℕ, not, [], ◌∷◌, length, is_some, Some, None, Option, ◌==◌, nat_eq, nat_le, nat_lt}
-use Rattle.event_queue.specs.Refusals.{◌when◌, topmost}
-use Rattle.fairway.specs.Instants.{instant_refusal}
+use Rattle.std.specs.Prelude.{◌≡◌, ℕ, [], ◌∷◌, length, Some, None, Option}
 use Rattle.fairway.specs.Orders.{load, order, turned}
 use Rattle.fairway.specs.Rosters.{course_of}
-use Rattle.fairway.specs.Stamps.{time_of, earlier}
-use Rattle.board.specs.Boards.{entry_out, steer_out}
+use Rattle.fairway.specs.Stamps.{time_of}
+use Rattle.board.specs.Boards.{Facts, refusal_of}
 use Rattle.board.specs.Books.{Book, Log, book, goal}
 use Rattle.board.specs.declared.call.Call.{Call}
 use Rattle.board.specs.declared.call.Call.TheVariants.{Open, Enter, Leave, Steer, Advance}
 use Rattle.board.specs.declared.call.Outcome.{Outcome}
 use Rattle.board.specs.declared.call.Outcome.TheVariants.{Accepted, Refused}
 use Rattle.board.specs.declared.refusal.Refusal.{Refusal}
-use Rattle.board.specs.declared.refusal.Refusal.TheVariants.{NumberZero, OutOfRange, ClockHasFraction, AlreadyAboard, Full, UnknownVessel, NoSuchInstant, Early, FewRows, SmallQueue}
 
--- The table of refusals over the book, of a board with a queue of this capacity that is lent so many rows. The
--- load is the number of pairs whose rear is the faster.
+-- The facts of the book, of a board with a queue of this capacity. The load is the number of pairs whose rear is the
+-- faster.
+abbrev pub book_facts : ℕ → Book → Facts
+book_facts capacity k =
+    record {
+      clock = k.clock;
+      roster = course_of k.roster;
+      count = length k.roster;
+      load = load (order (time_of k.clock) k.roster);
+      capacity = capacity;
+    }
+
+-- the same table, over the book
 abbrev pub refusal_by_book : ℕ → ℕ → Book → Call → Option Refusal
-refusal_by_book capacity lent k Open = None
-refusal_by_book capacity lent k (Enter number position speed) =
-    topmost (
-    NumberZero when nat_eq number 0 ∷
-    OutOfRange when entry_out position speed ∷
-    ClockHasFraction when not (k.clock.numerator == 0) ∷
-    AlreadyAboard when is_some (course_of k.roster number) ∷
-    Full when nat_le 64 (length k.roster) ∷
-    SmallQueue when nat_lt capacity 64 ∷ [])
-refusal_by_book capacity lent k (Leave number) =
-    topmost (
-    NumberZero when nat_eq number 0 ∷
-    ClockHasFraction when not (k.clock.numerator == 0) ∷
-    UnknownVessel when not (is_some (course_of k.roster number)) ∷ [])
-refusal_by_book capacity lent k (Steer number speed) =
-    topmost (
-    NumberZero when nat_eq number 0 ∷
-    OutOfRange when steer_out (course_of k.roster number) speed k.clock.seconds ∷
-    ClockHasFraction when not (k.clock.numerator == 0) ∷
-    UnknownVessel when not (is_some (course_of k.roster number)) ∷ [])
-refusal_by_book capacity lent k (Advance s n d) =
-    topmost (
-    NoSuchInstant when is_some (instant_refusal s n d) ∷
-    Early when earlier (goal s n d) k.clock ∷
-    FewRows when nat_lt lent (load (order (time_of k.clock) k.roster)) ∷ [])
+refusal_by_book capacity lent k call = refusal_of (book_facts capacity k) call lent
 
 -- how many pairs a call turns: an advance those that are behind at the old clock and in front at the new
 abbrev pub mends_by_book : Book → Call → ℕ
