@@ -3,9 +3,9 @@ use Rattle.std.proofs.Common.{◌≡◌, ℕ, ◌+◌, ◌<◌, ◌≤◌, Bool,
 use Rattle.std.proofs.lemmas.List.{take_more, take_all}
 use Rattle.std.proofs.lemmas.Bool.{eqb-true, eqb-false, cases_Bool, cond-true, cond-false}
 use Rattle.event_queue.specs.Queues as queues
-use Rattle.event_queue.specs.Queues.{Only, Dropped, Put}
+use Rattle.event_queue.specs.Queues.{Only, Rekeyed}
 use Rattle.event_queue.specs.declared.refusal.Refusal.{Refusal}
-use Rattle.event_queue.proofs.Laws.{dropped_only, only_again, put_only}
+use Rattle.event_queue.proofs.Laws.{rekeyed_only}
 use Rattle.event_queue.proofs.Options.{none_some}
 use Rattle.fairway.specs.Meetings.{level}
 use Rattle.fairway.specs.declared.course.Course.{Course}
@@ -55,14 +55,12 @@ ticket_of None k e = absurd (none_some e)
 ticket_of (Some p) k e = record { rear = p.rear; front = p.front; pair = refl; meets = e }
 
 module _ {S Q : Type 0} (m : structures.Meaning S) (n : queues.Meaning Q Stamp) (certified : Certified m) where
-  -- dropped, and put anew
-  pub put_anew : (s : S) (q q' q'' : Q) (i : ℕ) (k : Stamp) (r : Result (Option Stamp) Refusal) (r' : Result Unit Refusal) → wanted m s i ≡ Some k → Dropped n q q' i r → Put n q' q'' i k r' → n.sound q → n.capacity q ≡ 64 → Only n q q'' i (wanted m s i)
-  put_anew s q q' q'' i k r r' e d p sound large =
+  -- given the key that is wanted
+  pub given_anew : (s : S) (q q' : Q) (i : ℕ) (k : Stamp) (r : Result Unit Refusal) → wanted m s i ≡ Some k → Rekeyed n q q' i k r → n.sound q → n.capacity q ≡ 64 → Only n q q' i (wanted m s i)
+  given_anew s q q' i k r e d sound large =
       let t = ticket_of (m.certificate s i) k e in
       let low = (certified s i t.rear t.front t.pair).0 in
-      let o = dropped_only n q q' i r d sound in
-      let b : i < n.capacity q' = omega (arith, o.capacity, large, low) in
-      subst (λ x. Only n q q'' i x) (sym e) (only_again n o (put_only n q' q'' i k r' p o.sound b o.there))
+      subst (λ x. Only n q q' i x) (sym e) (rekeyed_only n q q' i k r d sound (omega (arith, large, low)))
 
 -- ---- the queue on the way
 -- the first k of the numbers have the tickets that are wanted, the others what they had
@@ -109,6 +107,6 @@ module _ {Q K : Type 0} (n : queues.Meaning Q K) where
   pub kept_only : {q q' : Q} {i : ℕ} {o : Option K} → n.keeps q q' → (n.sound q → Only n q q' i o) → QueueKept n q q'
   kept_only {q} {q'} k h = record { sound = λ s. (h s).sound; capacity = λ s. (h s).capacity; keeps = k }
 
-  pub kept_put : {q q' : Q} (i : ℕ) (k : K) (r : Result Unit Refusal) → Put n q q' i k r → n.keeps q q' → QueueKept n q q'
-  kept_put {q} {q'} i k (Ok u) p keeps = kept_only keeps (λ s. (p s).1)
-  kept_put {q} {q'} i k (Err e) p keeps = subst (λ x. QueueKept n q x) (sym p.0) (kept_itself q)
+  pub kept_rekeyed : {q q' : Q} (i : ℕ) (k : K) (r : Result Unit Refusal) → Rekeyed n q q' i k r → n.keeps q q' → QueueKept n q q'
+  kept_rekeyed {q} {q'} i k (Ok u) p keeps = kept_only keeps (λ s. (p s).1)
+  kept_rekeyed {q} {q'} i k (Err e) p keeps = subst (λ x. QueueKept n q x) (sym p.0) (kept_itself q)

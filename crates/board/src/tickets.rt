@@ -15,14 +15,18 @@ pub fn ticket_of(certificate: Option<Pair>) -> Option<Stamp>
     certificate?.level_instant()
 }
 
-// Drops the ticket of a certificate number, and puts the one that its certificate asks for.
+// Gives the ticket of a certificate number the key that its certificate asks for, or drops it.
 pub fn renew<S: Structure, Q: Queue<Key = Stamp>>(structure: &S, queue: &mut Q, number: usize)
     ensures only { Q.Queue.means.sound queue.old → Q.Queue.means.capacity queue.old ≡ 64 → Only Q.Queue.means queue.old queue.new number (ticket (S.Structure.means.certificate structure.now number)) }
     ensures kept { QueueKept Q.Queue.means queue.old queue.new }
 {
-    let _ = queue.drop(number);
-    if let Some(key) = ticket_of(structure.certificate(number)) {
-        let _ = queue.put(number, key);
+    match ticket_of(structure.certificate(number)) {
+        Some(key) => {
+            let _ = queue.rekey(number, key);
+        }
+        None => {
+            let _ = queue.drop(number);
+        }
     }
 }
 

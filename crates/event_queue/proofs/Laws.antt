@@ -2,7 +2,7 @@
 use Rattle.std.proofs.Common.{◌≡◌, ℕ, ◌<◌, ◌≤◌, Bool, true, false, leb, List, [], ◌∷◌, is_some, Some, None, Ok, Err, Option, Result, sym, refl, ap, ◌∙◌, subst, arith}
 use Rattle.std.proofs.lemmas.Bool.{leb-true, leb-false, le-leb, lt-leb}
 use Rattle.event_queue.specs.Refusals.{Line, ◌when◌, topmost}
-use Rattle.event_queue.specs.Queues.{Meaning, Only, Put, Dropped, put_refusal}
+use Rattle.event_queue.specs.Queues.{Meaning, Only, Put, Dropped, Rekeyed, put_refusal}
 use Rattle.event_queue.specs.declared.refusal.Refusal.{Refusal}
 use Rattle.event_queue.specs.declared.refusal.Refusal.TheVariants.{NoSuchTicket, TicketHeld}
 
@@ -100,3 +100,8 @@ module _ {Q K : Type 0} (m : Meaning Q K) where
       let h : n < m.capacity q = dropped_below q q' n old d s in
       let k : n < m.capacity q' = omega (arith, o.capacity) in
       only_again o (put_only q' q'' n key r p o.sound k o.there)
+
+  -- a rekey of a ticket number gives it the key, whatever it answers
+  pub rekeyed_only : (q q' : Q) (n : ℕ) (key : K) (r : Result Unit Refusal) → Rekeyed m q q' n key r → m.sound q → n < m.capacity q → Only m q q' n (Some key)
+  rekeyed_only q q' n key (Ok u) p s h = (p s).1
+  rekeyed_only q q' n key (Err e) p s h = let past = past_refused NoSuchTicket e _ n (p.1 s) in absurd (omega (arith, past, h))

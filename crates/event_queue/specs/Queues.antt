@@ -35,7 +35,7 @@ module _ {Q K : Type 0} (m : Meaning Q K) where
   abbrev pub size_of : Q → ℕ
   size_of q = count_below (λ n. is_some (m.held q n)) (m.capacity q)
 
-  -- the refusals of held and drop
+  -- the refusals of held, drop and rekey
   abbrev pub ticket_refusal : Q → ℕ → Option Refusal
   ticket_refusal q n = topmost (NoSuchTicket when nat_le (m.capacity q) n ∷ [])
 
@@ -69,6 +69,11 @@ module _ {Q K : Type 0} (m : Meaning Q K) where
   Dropped q q' n (Ok (Some key)) = m.sound q → (ticket_refusal q n ≡ None) × (m.held q n ≡ Some key) × Only q q' n None
   Dropped q q' n (Ok None) = (q' ≡ q) × (m.sound q → (ticket_refusal q n ≡ None) × (m.held q n ≡ None))
   Dropped q q' n (Err e) = (q' ≡ q) × (m.sound q → ticket_refusal q n ≡ Some e)
+
+  -- rekey: refused, it leaves any queue as it was
+  abbrev pub Rekeyed : Q → Q → ℕ → K → Result Unit Refusal → Type 0
+  Rekeyed q q' n key (Ok _) = m.sound q → (ticket_refusal q n ≡ None) × Only q q' n (Some key)
+  Rekeyed q q' n key (Err e) = (q' ≡ q) × (m.sound q → ticket_refusal q n ≡ Some e)
 
   module _ (before : K → K → Bool) where
     -- a ticket was handed out. Among equal keys, of which none is before another, the choice is the queue's.

@@ -1,5 +1,5 @@
 ghost use Rattle.std.specs.Prelude.{◌≡◌};
-ghost use Rattle.event_queue.specs.Queues.{Meaning, size_of, Held, Put, Dropped, Took};
+ghost use Rattle.event_queue.specs.Queues.{Meaning, size_of, Held, Put, Dropped, Rekeyed, Took};
 
 use crate::key::Key;
 use crate::refusal::Refusal;
@@ -35,6 +35,17 @@ pub trait Queue {
     fn drop(&mut self, ticket: usize) -> Result<Option<Self::Key>, Refusal>
         ensures after { Dropped means self.old self.new ticket result }
         ensures keeps { means.keeps self.old self.new };
+
+    // Gives a ticket a key, whatever it held. A queue that can change a key in place has a body of its own.
+    fn rekey(&mut self, ticket: usize, key: Self::Key) -> Result<(), Refusal>
+        ensures after { Rekeyed means self.old self.new ticket key result }
+        ensures keeps { means.keeps self.old self.new }
+    {
+        self.drop(ticket)?;
+        // not refused by a sound queue: the ticket is there, and holds nothing
+        let _ = self.put(ticket, key);
+        Ok(())
+    }
 
     // Takes out a ticket whose key is not after the limit and has none before it, or answers none.
     fn take(&mut self, limit: Self::Key) -> Option<(usize, Self::Key)>

@@ -32,7 +32,8 @@ mod tests {
         let drawn = turn.wrapping_mul(40503) % 65536;
         let ticket = (drawn / 7 % 68) as usize;
         match drawn / 64 % 8 {
-            0 | 1 | 2 => a.put(ticket, drawn) == b.put(ticket, drawn),
+            0 | 1 => a.put(ticket, drawn) == b.put(ticket, drawn),
+            2 => a.rekey(ticket, drawn) == b.rekey(ticket, drawn),
             3 => a.drop(ticket) == b.drop(ticket),
             4 | 5 => a.take(drawn) == b.take(drawn),
             6 => a.held(ticket) == b.held(ticket),

@@ -34,6 +34,21 @@ fn fill<Q: Queue<Key = u32>>(rt: &impl Abort, queue: &mut Q, capacity: usize) {
     assert!(rt; queue.size() == capacity);
 }
 
+// Gives every ticket of a full queue other keys, drops it, and gives it its own again.
+fn rekey_all<Q: Queue<Key = u32>>(rt: &impl Abort, queue: &mut Q, capacity: usize) {
+    for ticket in 0..capacity.min(64) {
+        let own = key_of(ticket);
+        for key in [0, u32::MAX, own] {
+            assert_eq!(rt; queue.rekey(ticket, key), Ok(()));
+            assert_eq!(rt; queue.held(ticket), Ok(Some(key)));
+        }
+        assert_eq!(rt; queue.drop(ticket), Ok(Some(own)));
+        assert_eq!(rt; queue.rekey(ticket, own), Ok(()));
+        assert!(rt; queue.size() == capacity);
+    }
+    assert_eq!(rt; queue.rekey(capacity, 5), Err(Refusal::NoSuchTicket));
+}
+
 // Takes out all tickets of a full queue, the earlier keys first.
 fn empty<Q: Queue<Key = u32>>(rt: &impl Abort, queue: &mut Q, capacity: usize) -> Result<(), Fail> {
     let mut last = 0;
@@ -54,6 +69,7 @@ fn empty<Q: Queue<Key = u32>>(rt: &impl Abort, queue: &mut Q, capacity: usize) -
 fn a_single_ticket(rt: HostRuntime) -> Result<(), Fail> {
     let mut queue: SingleTicket<u32> = SingleTicket::new();
     fill(&rt, &mut queue, 1);
+    rekey_all(&rt, &mut queue, 1);
     empty(&rt, &mut queue, 1)
 }
 
@@ -64,6 +80,7 @@ fn in_first_cells(rt: &impl Abort, cells: &mut [Cell<u32>], count: usize) -> Res
     }
     let mut queue = BinaryHeap::new(&mut cells[0..count]);
     fill(rt, &mut queue, count.min(64));
+    rekey_all(rt, &mut queue, count.min(64));
     empty(rt, &mut queue, count.min(64))
 }
 
