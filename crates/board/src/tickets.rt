@@ -31,22 +31,18 @@ pub fn renew<S: Structure, Q: Queue<Key = Stamp>>(structure: &S, queue: &mut Q, 
 }
 
 // The same of each number that is named.
-pub fn renew_all<S: Structure, Q: Queue<Key = Stamp>>(
-    structure: &S,
-    queue: &mut Q,
-    numbers: &[usize],
-)
+pub fn renew_all<S: Structure, Q: Queue<Key = Stamp>>(structure: &S, queue: &mut Q, numbers: &[u8])
     ensures tickets { Q.Queue.means.sound queue.old → Q.Queue.means.capacity queue.old ≡ 64 → TicketsBut S.Structure.means Q.Queue.means structure.now queue.old numbers.now → Tickets S.Structure.means Q.Queue.means structure.now queue.new }
     ensures kept { QueueKept Q.Queue.means queue.old queue.new }
 {
     for number in numbers {
-        renew(structure, queue, *number);
+        renew(structure, queue, usize::from(*number));
     }
 }
 
 // Whether a number is named.
-pub fn is_named(numbers: &[usize], number: usize) -> bool
+pub fn is_named(numbers: &[u8], number: usize) -> bool
     ensures { result ≡ among number numbers.now }
 {
-    numbers.contains(&number)
+    numbers.iter().any(|named| usize::from(*named) == number)
 }

@@ -4,12 +4,12 @@ ghost use Rattle.kinetic.specs.Numbers.{Pushed};
 use std::marker::Model;
 
 // At most 64 certificate numbers, one after the other: whoever reads them pays for as many as there are.
-// They stand in a buffer with their count beside it, since a change of a structure asks for no memory, and
-// its answer is copied like a number.
+// They stand in a buffer with their count beside it, since a change of a structure asks for no memory. Its
+// answer is copied like a number, so they are bytes: all certificate numbers are below 64.
 #[derive(Clone, Copy)]
 pub struct Numbers {
     count: usize,
-    numbers: [usize; 64],
+    numbers: [u8; 64],
 }
 
 // A clause sees the numbers, in the order in which they were added. Behind them the buffer is zero, so that
@@ -44,7 +44,7 @@ impl Numbers {
     }
 
     // Adds a number behind the others; where 64 are there already, nothing changes.
-    pub fn push(&mut self, number: usize)
+    pub fn push(&mut self, number: u8)
         ensures { Pushed self.old self.new number }
     {
         if self.count >= 64 {
@@ -55,7 +55,7 @@ impl Numbers {
     }
 
     // The numbers, in the order in which they were added.
-    pub fn as_slice(&self) -> &[usize]
+    pub fn as_slice(&self) -> &[u8]
         ensures value { result.now ≡ self.now }
         ensures few { length result.now ≤ 64 }
     {

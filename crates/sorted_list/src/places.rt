@@ -68,7 +68,7 @@ pub(crate) fn numbers_from(place: usize, end: usize) -> Numbers
     let mut numbers = Numbers::new();
     let first = place.saturating_sub(1);
     for number in first..end {
-        numbers.push(number);
+        numbers.push(number as u8);
     }
     numbers
 }

@@ -94,7 +94,7 @@ pub(crate) fn play_above(nodes: &mut [Option<Course>], from: usize, at: Stamp) -
         node = (node - 1) / 2;
         let two = Match::of(nodes, node);
         nodes[node] = two.winner(two.second_wins(at));
-        numbers.push(node);
+        numbers.push(node as u8);
     }
     numbers
 }

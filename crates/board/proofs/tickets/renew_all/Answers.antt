@@ -1,4 +1,5 @@
-use Rattle.std.proofs.Common.{◌∙◌}
+use Rattle.std.proofs.Common.{◌∙◌, subst}
+use Rattle.event_queue.specs.Queues.{Only}
 use Rattle.board.proofs.Renewing.{wanted, renewed_none, renewed_more, renewed_all, kept_itself, kept_on}
 use Rattle.board.proofs.tickets.renew_all.Goals as goal
 
@@ -12,8 +13,9 @@ loop-number-preserved g c =
     let n = g.Q.Queue.means in
     let h = c.loop-number.invariant in (
       λ s large.
+          let want = wanted g.S.Structure.means c.args.structure.now in
           let r = h.0 s large in
-          renewed_more n (wanted g.S.Structure.means c.args.structure.now) c.args.numbers.now _ c.loop-number-test.true r (c.renew.ensures.only r.sound (r.capacity ∙ large)),
+          renewed_more n want c.args.numbers.now _ c.loop-number-test.true r (subst (λ i. Only n c.loop-number.queue c.renew.new.queue i (want i)) c.from.ensures (c.renew.ensures.only r.sound (r.capacity ∙ large))),
       kept_on n h.1 c.renew.ensures.kept,
     )
 
