@@ -1,10 +1,11 @@
 -- Calls that change one vessel: what they are refused for, and what they leave.
-use Rattle.std.proofs.Common.{◌≡◌, ℕ, ◌+◌, ◌*◌, ◌<◌, ◌≤◌, false, List, ℤ, ◌==◌, Some, None, Option, sym, ap, ◌∙◌, subst, inl, ⊎_elim, arith}
+use Rattle.std.proofs.Common.{◌≡◌, ℕ, ◌+◌, ◌*◌, ◌<◌, ◌≤◌, false, List, ℤ, ◌==◌, Some, None, Ok, Err, Option, Result, IsErrAnd, refl, sym, ap, ◌∙◌, subst, inl, ⊎_elim, arith}
 use Rattle.std.proofs.lemmas.Bool.{eq-eqb, cond-true}
 use Rattle.std.proofs.lemmas.Bool.Decides.{nat_tests}
 use Rattle.event_queue.specs.Queues as queues
 use Rattle.event_queue.proofs.Options.{none_some}
 use Rattle.fairway.specs.Instants.{stamp_of}
+use Rattle.fairway.specs.Rosters.{changed_by}
 use Rattle.fairway.specs.Stamps.{time_of}
 use Rattle.fairway.specs.declared.course.Course.{Course}
 use Rattle.fairway.specs.declared.instant.Instant.{Instant}
@@ -17,10 +18,12 @@ use Rattle.kinetic.specs.Limits.{out_of_range}
 use Rattle.board.specs.Books.{course_at, at_speed}
 use Rattle.board.proofs.Bases.{entry_range}
 use Rattle.board.specs.Boards.{Right, Bounded, refusal, entry_out}
-use Rattle.board.specs.Outcomes.{Changed}
+use Rattle.board.specs.Outcomes.{Changed, Happened, done, plain_event}
 use Rattle.board.specs.Tickets.{ticket, Tickets, TicketsBut, QueueKept}
 use Rattle.board.specs.declared.board.Board.{Board}
+use Rattle.board.specs.declared.call.Call.{Call}
 use Rattle.board.specs.declared.call.Call.TheVariants.{Enter, Leave, Steer}
+use Rattle.board.specs.declared.refusal.Refusal.{Refusal}
 use Rattle.board.specs.declared.refusal.Refusal.TheVariants.{NumberZero, ClockHasFraction, UnknownVessel}
 
 -- at a whole second, as many mends may come as the largest load
@@ -103,6 +106,11 @@ module _ {S Q : Type 0} (m : structures.Meaning S) (n : queues.Meaning Q Stamp) 
       let r = entry_range v p s b.clock.seconds k.numbered f k.within in
       enter_accepted m b.structure x (λ z. let h = k.numbered in omega (arith, h, z)) (of_range x r) k.absent k.room
 
+  -- ---- a refused call
+  pub refused : (b : Board S Q) (call : Call) (e : Refusal) (answer : Result Unit Refusal) → refusal m n b call 0 ≡ Some e → IsErrAnd answer (λ own. own ≡ e) → Happened m n b (plain_event call (done answer)) b
+  refused b call e (Ok u) h q = absurd q
+  refused b call e (Err own) h q = (h ∙ ap Some (sym q), refl)
+
   -- ---- steer
   -- a vessel that the board lets steer
   pub record Steers (b : Board S Q) (v : ℕ) (s : ℤ) (c : Course) : Type 0 where
@@ -117,6 +125,19 @@ module _ {S Q : Type 0} (m : structures.Meaning S) (n : queues.Meaning Q Stamp) 
         within = grind (arith, nat_tests);
         whole = grind (arith, nat_tests);
       }
+
+  -- the vessel that a changed course is of
+  pub record OldCourse (b : Board S Q) (v : ℕ) (s : ℤ) (c : Course) : Type 0 where
+    pub old : Course
+    pub there : m.roster b.structure v ≡ Some old
+    pub is : c ≡ at_speed s b.clock.seconds old
+
+  pub old_course : (b : Board S Q) (v : ℕ) (s : ℤ) (c : Course) → changed_by (at_speed s b.clock.seconds) (m.roster b.structure v) ≡ Some c → OldCourse b v s c
+  old_course b v s c e = found (m.roster b.structure v) refl e
+    where
+      found : (o : Option Course) → m.roster b.structure v ≡ o → changed_by (at_speed s b.clock.seconds) o ≡ Some c → OldCourse b v s c
+      found None r h = absurd (none_some h)
+      found (Some old) r h = record { old = old; there = r; is = cc }
 
   pub steers_structure : (b : Board S Q) (v : ℕ) (s : ℤ) (c : Course) → Steers b v s c → c.number ≡ v → m.roster b.structure v ≡ Some c → steer_refusal m b.structure (at_speed s b.clock.seconds c) ≡ None
   steers_structure b v s c k q a =

@@ -1,5 +1,5 @@
 -- What each call does to a board.
-use Rattle.std.specs.Prelude.{◌≡◌, ℕ, ◌+◌, ◌-◌, ◌^◌, ◌≤◌, false, min, List, [], length, take, Some, None, Ok, Err, Option, Result, ◌≢◌}
+use Rattle.std.specs.Prelude.{◌≡◌, ℕ, ◌+◌, ◌-◌, ◌^◌, ◌≤◌, false, min, List, [], length, take, Some, None, Ok, Err, Option, Result, ◌≢◌, ℤ}
 use Rattle.std.specs.List.{AllByRecursion}
 use Rattle.std.specs.List.Sorted.{IsSortedBy}
 use Rattle.event_queue.specs.Queues as queues
@@ -72,6 +72,11 @@ module _ {S Q : Type 0} (m : structures.Meaning S) (n : queues.Meaning Q Stamp) 
   Does b (Leave number) mends rows b' = (mends ≡ 0) × Changed b b' number None
   Does b (Steer number speed) mends rows b' = (mends ≡ 0) × Changed b b' number (changed_by (at_speed speed b.clock.seconds) (m.roster b.structure number))
   Does b (Advance s n d) mends rows b' = Moved b b' (goal s n d) mends rows
+
+  -- the course that a change of course gives a vessel, or why it is refused
+  abbrev pub GivesCourse : Board S Q → ℕ → ℤ → Result Course Refusal → Type 0
+  GivesCourse b v speed (Ok c) = (refusal m n b (Steer v speed) 0 ≡ None) × (changed_by (at_speed speed b.clock.seconds) (m.roster b.structure v) ≡ Some c)
+  GivesCourse b v speed (Err e) = refusal m n b (Steer v speed) 0 ≡ Some e
 
   -- a call comes out as the table of refusals says: a refused one leaves everything as it was
   abbrev pub Comes : Board S Q → Call → ℕ → Outcome → List Row → Board S Q → Type 0

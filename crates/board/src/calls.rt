@@ -3,7 +3,7 @@ ghost use Rattle.event_queue.specs.Queues.{Meaning};
 ghost use Rattle.board.specs.Boards.{refusal};
 ghost use Rattle.board.specs.Books.{mends_of};
 ghost use Rattle.board.specs.History.{Past, Adds};
-ghost use Rattle.board.specs.Outcomes.{Opened, done, mended, plain_event, rows_event};
+ghost use Rattle.board.specs.Outcomes.{Opened, GivesCourse, done, mended, plain_event, rows_event};
 ghost use Rattle.board.specs.Passings.{Written};
 ghost use Rattle.board.specs.declared.call.Call.TheVariants.{Open, Enter, Leave, Steer, Advance};
 ghost use Rattle.board.specs.declared.call.Outcome.TheVariants.{Accepted};
@@ -16,6 +16,7 @@ use crate::refusal::Refusal;
 use crate::tickets::renew_all;
 use event_queue::clear::clear;
 use event_queue::queue::Queue;
+use fairway::course::Course;
 use fairway::instant::Instant;
 use fairway::stamp::Stamp;
 use kinetic::limits::is_out_of_range;
@@ -106,28 +107,27 @@ impl<S: Structure + Drop, Q: Queue<Key = Stamp> + Drop> Board<S, Q> {
         Ok(())
     }
 
-    // Why a change of course is refused, if it is.
-    fn steer_refusal(&self, number: u16, speed: i16) -> Option<Refusal>
-        ensures { result ≡ refusal S.Structure.means Q.Queue.means self.now (Steer number speed) 0 }
+    // The course of a vessel at another speed from the clock on, or why the change is refused.
+    fn steered(&self, number: u16, speed: i16) -> Result<Course, Refusal>
+        ensures { GivesCourse S.Structure.means Q.Queue.means self.now number speed result }
     {
         if number == 0 {
-            return Some(Refusal::NumberZero);
+            return Err(Refusal::NumberZero);
         }
-        let aboard = self.structure.course(number);
-        let is_out = match aboard {
-            Some(course) => is_out_of_range(at_speed(course, speed, self.clock.seconds())),
+        let steered = match self.structure.course(number) {
+            Some(course) => Some(at_speed(course, speed, self.clock.seconds())),
+            None => None,
+        };
+        let is_out = match steered {
+            Some(course) => is_out_of_range(course),
             None => is_speed_out(speed),
         };
-        if is_out {
-            return Some(Refusal::OutOfRange);
+        match steered {
+            _ if is_out => Err(Refusal::OutOfRange),
+            _ if self.clock.numerator() != 0 => Err(Refusal::ClockHasFraction),
+            Some(course) => Ok(course),
+            None => Err(Refusal::UnknownVessel),
         }
-        if self.clock.numerator() != 0 {
-            return Some(Refusal::ClockHasFraction);
-        }
-        if aboard.is_none() {
-            return Some(Refusal::UnknownVessel);
-        }
-        None
     }
 
     // A vessel takes another speed, from the position that it has. Refused where the number is 0, the speed is
@@ -135,13 +135,7 @@ impl<S: Structure + Drop, Q: Queue<Key = Stamp> + Drop> Board<S, Q> {
     pub fn steer(&mut self, number: u16, speed: i16) -> Result<(), Refusal>
         ensures { Adds S.Structure.means Q.Queue.means self.old (plain_event (Steer number speed) (done result)) self.new }
     {
-        if let Some(refusal) = self.steer_refusal(number, speed) {
-            return Err(refusal);
-        }
-        let Some(old) = self.structure.course(number) else {
-            return Err(Refusal::UnknownVessel);
-        };
-        let course = at_speed(old, speed, self.clock.seconds());
+        let course = self.steered(number, speed)?;
         if let Ok(named) = self.structure.steer(course, self.clock.stamp()) {
             renew_all(&self.structure, &mut self.queue, named.as_slice());
         }

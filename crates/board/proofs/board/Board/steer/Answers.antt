@@ -1,34 +1,27 @@
-use Rattle.std.proofs.Common.{◌≡◌, ◌≤◌, Some, None, refl, sym, ap, ◌∙◌, subst, w16, to_z, of_z, arith}
+use Rattle.std.proofs.Common.{◌≡◌, Some, Ok, Err, refl, sym, ap, ◌∙◌, subst, w16, to_z, of_z, arith}
 use Rattle.std.proofs.lemmas.Int.{ints}
 use Rattle.event_queue.proofs.Options.{none_some}
 use Rattle.fairway.specs.Instants.{stamp_of}
-use Rattle.fairway.specs.Rosters.{changed_by}
 use Rattle.fairway.specs.Stamps.{time_of}
-use Rattle.fairway.specs.declared.course.Course.{Course}
 use Rattle.kinetic.specs.Structures as structures
 use Rattle.kinetic.specs.Structures.{steer_refusal}
-use Rattle.board.specs.Boards.{refusal}
-use Rattle.board.specs.Books.{at_speed}
+use Rattle.board.specs.Outcomes.{GivesCourse}
 use Rattle.board.specs.Tickets.{TicketsBut}
 use Rattle.board.specs.declared.call.Call.TheVariants.{Steer}
 use Rattle.board.proofs.Pasts.{adds}
-use Rattle.board.proofs.Changing.{changes, large_aboard, steers, steers_structure}
+use Rattle.board.proofs.Changing.{changes, large_aboard, old_course, refused, steers, steers_structure}
 use Rattle.board.proofs.board.Board.steer.Goals as goal
 
-pub returns-in-Some : goal.returns-in-Some
-returns-in-Some g c =
+pub returns-in_err-course : goal.returns-in_err-course
+returns-in_err-course g c =
     let m = g.S.Structure.means in
     let n = g.Q.Queue.means in
     let laws = g.met.S.Structure in
     let b = c.args.self.now in
     let v : to_z w16 (of_z w16 c.args.speed) ≡ c.args.speed = omega (arith, ints) in
-    let e = c.steer_refusal.ensures ∙ ap (λ x. refusal m n b (Steer c.args.number x) 0) v in
-    adds m n laws.ordered laws.leads _ _ _ (sym e ∙ c.in-Some.is, refl)
-
-pub at_speed-course-requires : goal.at_speed-course-requires
-at_speed-course-requires g c =
-    let a = g.met.S.Structure.listed _ _ _ (sym c.course.ensures ∙ c.in-Some-course.is) in
-    (a.in_range, subst (λ s. s ≤ 16777216) (sym c.seconds.ensures) c.args.self.now.clock.bounded)
+    let e = c.in_err-course.field-0.0 in
+    let given : GivesCourse m n b c.args.number c.args.speed (Err e) = subst (λ s. GivesCourse m n b c.args.number s (Err e)) v c.in_err-course.ensures in
+    adds m n laws.ordered laws.leads _ _ _ (refused m n b (Steer c.args.number c.args.speed) e c.from_residual.result given c.from_residual.ensures.1)
 
 pub returns-in-Ok : goal.returns-in-Ok
 returns-in-Ok g c =
@@ -36,37 +29,29 @@ returns-in-Ok g c =
     let n = g.Q.Queue.means in
     let laws = g.met.S.Structure in
     let b = c.args.self.now in
+    let x = c.in_ok-course.course in
     let v : to_z w16 (of_z w16 c.args.speed) ≡ c.args.speed = omega (arith, ints) in
-    let old = c.in-Some-course.old in
-    let there : m.roster b.structure c.args.number ≡ Some old = sym c.course.ensures ∙ c.in-Some-course.is in
-    let e = c.steer_refusal.ensures ∙ ap (λ x. refusal m n b (Steer c.args.number x) 0) v in
-    let none : refusal m n b (Steer c.args.number c.args.speed) 0 ≡ None = sym e ∙ c.in_default.is in
-    let k = steers m n b c.args.number 0 c.args.speed old none there in
-    let x = at_speed c.args.speed b.clock.seconds old in
-    let q : c.at_speed-course.result ≡ x = c.at_speed-course.ensures ∙ ap (λ z. at_speed z c.seconds.result old) v ∙ ap (λ z. at_speed c.args.speed z old) c.seconds.ensures in
-    let h = c.in-Ok.ensures in
-    let at = subst (λ s. structures.Changed m (time_of s) b.structure c.steer.new.self c.at_speed-course.result.number (Some c.at_speed-course.result) c.in-Ok.named) c.stamp.ensures h.1 in
-    let new = subst (λ (z : Course). structures.Changed m (time_of (stamp_of b.clock)) b.structure c.steer.new.self z.number (Some z) c.in-Ok.named) q at in
-    let change = subst (λ z. structures.Changed m (time_of (stamp_of b.clock)) b.structure c.steer.new.self z (Some x) c.in-Ok.named) (laws.listed _ _ _ there).number new in
-    let altered = subst (λ z. structures.Changed m (time_of (stamp_of b.clock)) b.structure c.steer.new.self c.args.number z c.in-Ok.named) (sym (ap (changed_by (at_speed c.args.speed b.clock.seconds)) there)) change in
+    let given : GivesCourse m n b c.args.number c.args.speed (Ok x) = subst (λ s. GivesCourse m n b c.args.number s (Ok x)) v c.in_ok-course.ensures in
+    let o = old_course m n b c.args.number c.args.speed x given.1 in
+    let k = steers m n b c.args.number 0 c.args.speed o.old given.0 o.there in
+    let at = subst (λ s. structures.Changed m (time_of s) b.structure c.steer.new.self x.number (Some x) c.in-Ok.named) c.stamp.ensures c.in-Ok.ensures.1 in
+    let own = ap (λ z. z.number) o.is ∙ (laws.listed _ _ _ o.there).number in
+    let change = subst (λ z. structures.Changed m (time_of (stamp_of b.clock)) b.structure c.steer.new.self z (Some x) c.in-Ok.named) own at in
+    let altered = subst (λ z. structures.Changed m (time_of (stamp_of b.clock)) b.structure c.steer.new.self c.args.number z c.in-Ok.named) (sym given.1) change in
     adds m n laws.ordered laws.leads _ _ _ (
-      none,
-      (refl, changes m n b _ c.args.number _ c.in-Ok.named laws.bounded altered refl refl k.whole (large_aboard m n b c.args.number old there) (λ s large but. c.renew_all.ensures.tickets s large (subst (TicketsBut m n c.steer.new.self b.queue) (sym c.as_slice.ensures.value) but)) c.renew_all.ensures.kept),
+      given.0,
+      (refl, changes m n b _ c.args.number _ c.in-Ok.named laws.bounded altered refl refl k.whole (large_aboard m n b c.args.number o.old o.there) (λ s large but. c.renew_all.ensures.tickets s large (subst (TicketsBut m n c.steer.new.self b.queue) (sym c.as_slice.ensures.value) but)) c.renew_all.ensures.kept),
     )
 
-pub returns-in_default-steer : goal.returns-in_default-steer
-returns-in_default-steer g c =
+pub returns-in_default : goal.returns-in_default
+returns-in_default g c =
     let m = g.S.Structure.means in
     let n = g.Q.Queue.means in
     let laws = g.met.S.Structure in
     let b = c.args.self.now in
+    let x = c.in_ok-course.course in
     let v : to_z w16 (of_z w16 c.args.speed) ≡ c.args.speed = omega (arith, ints) in
-    let old = c.in-Some-course.old in
-    let there : m.roster b.structure c.args.number ≡ Some old = sym c.course.ensures ∙ c.in-Some-course.is in
-    let e = c.steer_refusal.ensures ∙ ap (λ x. refusal m n b (Steer c.args.number x) 0) v in
-    let none : refusal m n b (Steer c.args.number c.args.speed) 0 ≡ None = sym e ∙ c.in_default.is in
-    let k = steers m n b c.args.number 0 c.args.speed old none there in
-    let q : c.at_speed-course.result ≡ at_speed c.args.speed b.clock.seconds old =
-    c.at_speed-course.ensures ∙ ap (λ z. at_speed z c.seconds.result old) v ∙ ap (λ z. at_speed c.args.speed z old) c.seconds.ensures in
-    let h = c.in_default-steer.ensures in
-    absurd (none_some (sym (ap (steer_refusal m b.structure) q ∙ steers_structure m n b c.args.number c.args.speed old k (laws.listed _ _ _ there).number there) ∙ h.0))
+    let given : GivesCourse m n b c.args.number c.args.speed (Ok x) = subst (λ s. GivesCourse m n b c.args.number s (Ok x)) v c.in_ok-course.ensures in
+    let o = old_course m n b c.args.number c.args.speed x given.1 in
+    let k = steers m n b c.args.number 0 c.args.speed o.old given.0 o.there in
+    absurd (none_some (sym (ap (steer_refusal m b.structure) o.is ∙ steers_structure m n b c.args.number c.args.speed o.old k (laws.listed _ _ _ o.there).number o.there) ∙ c.in_default.ensures.0))
