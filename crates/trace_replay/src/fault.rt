@@ -1,6 +1,6 @@
 ghost use Rattle.std.specs.Prelude.{◌≡◌};
 ghost use Rattle.trace_replay.specs.Faults.{cause_number};
-ghost use Rattle.trace_replay.specs.declared.fault.Cause.TheVariants.{NoRoom, Trace};
+ghost use Rattle.trace_replay.specs.declared.fault.Cause.TheVariants.{NoRoom};
 
 use lines::refusal::NoRoom;
 use trace::fault::Fault as TraceFault;
@@ -43,13 +43,5 @@ impl From<NoRoom> for Cause {
 
     fn from(_refusal: NoRoom) -> Cause {
         Cause::NoRoom
-    }
-}
-
-impl From<TraceFault> for Cause {
-    ghost from_gives = { λ fault cause. cause ≡ Trace fault };
-
-    fn from(fault: TraceFault) -> Cause {
-        Cause::Trace(fault)
     }
 }
