@@ -1,23 +1,41 @@
 ghost use Rattle.std.specs.Prelude.{◌≡◌, ℕ, ◌+◌, ◌<◌, ◌≤◌, true, false, length};
 ghost use Rattle.std.specs.List.{insert};
 ghost use Rattle.fairway.specs.Stamps.{time_of};
-ghost use Rattle.fairway.specs.Orders.{put, faster_than};
+ghost use Rattle.fairway.specs.Orders.{put, faster_than, slower_than};
 ghost use Rattle.kinetic.specs.Numbers.{among};
 ghost use Rattle.sorted_list.specs.Rosters.{PlaceOf};
 ghost use Rattle.sorted_list.specs.Loads.{crossed};
 ghost use Rattle.sorted_list.specs.Ranks.{in_front};
 
 use fairway::course::Course;
-use fairway::order::count_slower;
 use fairway::stamp::Stamp;
 use kinetic::numbers::Numbers;
 
-// How many of the courses are faster than a front.
-fn count_faster(courses: &[Course], front: Course) -> usize
+// How many of the courses are faster than a front. At most 64 are counted, in 16 bits like the speeds, so that eight
+// are compared at a time.
+fn count_faster(courses: &[Course], front: Course) -> u16
+    requires { length courses.now ≤ 64 }
     ensures count { result ≡ faster_than front courses.now }
-    ensures few { result ≤ length courses.now }
+    ensures few { result ≤ 64 }
 {
-    courses.iter().filter(|rear| rear.is_faster(front)).count()
+    let mut count: u16 = 0;
+    for rear in courses {
+        count += u16::from(rear.is_faster(front));
+    }
+    count
+}
+
+// How many of the courses are slower than a rear.
+fn count_slower(courses: &[Course], rear: Course) -> u16
+    requires { length courses.now ≤ 64 }
+    ensures count { result ≡ slower_than rear courses.now }
+    ensures few { result ≤ 64 }
+{
+    let mut count: u16 = 0;
+    for front in courses {
+        count += u16::from(rear.is_faster(*front));
+    }
+    count
 }
 
 // How many of the courses are in front of a vessel.
@@ -37,7 +55,7 @@ pub(crate) fn crossings(courses: &[Course], place: usize, course: Course) -> usi
     ensures count { result ≡ crossed courses.now place course }
     ensures few { result ≤ 128 }
 {
-    count_faster(&courses[..place], course) + count_slower(&courses[place..], course)
+    usize::from(count_faster(&courses[..place], course) + count_slower(&courses[place..], course))
 }
 
 // The place of the vessel with a number, counted from 0 at the rear, or none.
