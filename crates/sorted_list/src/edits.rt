@@ -44,6 +44,20 @@ impl SortedList {
         self.load -= fewer;
     }
 
+    // Puts another course of the vessel at a place into that place.
+    pub(crate) fn replace(&mut self, place: usize, course: Course)
+        requires within { place < vec_len self.old.courses }
+        requires fits { course.number < 65536 }
+        requires range { InRange course }
+        requires new { course_of (remove self.old.courses.items place) course.number ≡ None }
+        ensures { self.new.courses.items ≡ insert (remove self.old.courses.items place) place course }
+    {
+        let old = self.courses[place];
+        self.load -= crossings(self.courses.as_slice(), place, old);
+        self.courses[place] = course;
+        self.load += crossings(self.courses.as_slice(), place, course);
+    }
+
     // Puts a new vessel in its place, and answers the place.
     pub(crate) fn put_in(&mut self, course: Course, at: Stamp) -> usize
         requires room { vec_len self.old.courses < 64 }

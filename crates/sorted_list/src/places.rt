@@ -5,7 +5,8 @@ ghost use Rattle.fairway.specs.Orders.{put, faster_than, slower_than};
 ghost use Rattle.kinetic.specs.Numbers.{among};
 ghost use Rattle.sorted_list.specs.Rosters.{PlaceOf};
 ghost use Rattle.sorted_list.specs.Loads.{crossed};
-ghost use Rattle.sorted_list.specs.Ranks.{in_front};
+ghost use Rattle.sorted_list.specs.Ranks.{in_front, Between};
+ghost use Rattle.fairway.specs.Courses.{Decides};
 
 use fairway::course::Course;
 use fairway::stamp::Stamp;
@@ -75,6 +76,18 @@ pub fn place_for(courses: &[Course], course: Course, at: Stamp) -> usize
         .iter()
         .position(|other| course.is_behind(*other, at))
         .unwrap_or(courses.len())
+}
+
+// Whether a course stands right at a place in the stead of the one there: in front of the vessel before it, and behind
+// the one after it.
+pub(crate) fn keeps_place(courses: &[Course], place: usize, course: Course, at: Stamp) -> bool
+    requires { place < length courses.now }
+    ensures { Decides (Between (time_of at) courses.now place course) result }
+{
+    if place > 0 && !courses[place - 1].is_behind(course, at) {
+        return false;
+    }
+    place + 1 == courses.len() || course.is_behind(courses[place + 1], at)
 }
 
 // The certificate numbers from the one before a place on, below an end. They are pushed one by one: an

@@ -5,7 +5,7 @@ ghost use Rattle.sorted_list.specs.ListStructureLemmas.{few};
 ghost use Rattle.sorted_list.specs.LoadsLemmas.{load_bounded};
 
 use crate::list::SortedList;
-use crate::places::{numbers_from, place_of};
+use crate::places::{keeps_place, numbers_from, place_of};
 use fairway::course::Course;
 use fairway::pair::Pair;
 use fairway::stamp::Stamp;
@@ -62,6 +62,10 @@ impl Structure for SortedList {
     fn steer(&mut self, course: Course, at: Stamp) -> Result<Numbers, Refusal> {
         check(course)?;
         let old = self.place(course.number)?;
+        if keeps_place(self.courses.as_slice(), old, course, at) {
+            self.replace(old, course);
+            return Ok(numbers_from(old, old + 1));
+        }
         self.take_out(old);
         let new = self.put_in(course, at);
         Ok(numbers_from(old.min(new), old.max(new) + 1))

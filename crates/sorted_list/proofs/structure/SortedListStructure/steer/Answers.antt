@@ -1,4 +1,5 @@
-use Rattle.std.proofs.Common.{◌≡◌, ℕ, ◌+◌, ◌<◌, ◌≤◌, length, get_or, ap, ◌∙◌, arith, rules}
+use Rattle.std.proofs.Common.{◌≡◌, ℕ, ◌+◌, ◌<◌, ◌≤◌, length, get_or, refl, ap, subst, ◌∙◌, arith, rules}
+use Rattle.std.specs.List.{remove}
 use Rattle.std.proofs.lemmas.List.Edits.{length-remove}
 use Rattle.fairway.specs.Stamps.{time_of}
 use Rattle.fairway.specs.StampsLemmas.{proper}
@@ -6,11 +7,49 @@ use Rattle.fairway.proofs.Lists.{nobody}
 use Rattle.fairway.specs.Rosters.{without}
 use Rattle.kinetic.proofs.Refused.{steer_accepted}
 use Rattle.sorted_list.specs.Questions.{means}
+use Rattle.sorted_list.specs.Laws.{rests_sorted}
+use Rattle.sorted_list.specs.Ranks.{Between}
 use Rattle.sorted_list.specs.RostersLemmas.{Fits}
 use Rattle.sorted_list.proofs.Changes.{certs_in, certs_out, certs_after}
+use Rattle.sorted_list.proofs.Kept.{roster_at, kept_put}
 use Rattle.sorted_list.proofs.Calls.{between_named, rested_put, rested_without, roster_in, roster_out, length_in}
 use Rattle.sorted_list.proofs.structure.SortedListStructure.steer.Goals as goal
 use Rattle.fairway.specs.Lists.{pair_at}
+
+pub replace-requires-clause-new : goal.replace-requires-clause-new
+replace-requires-clause-new c =
+    let x = c.args.course in
+    let xs = c.args.self.now.courses.items in
+    (roster_out x.number xs (remove xs c.in_ok-old.old) c.args.self.now.sound c.in_ok-old.ensures.1.1).0
+
+pub returns-then-keeps_place : goal.returns-then-keeps_place
+returns-then-keeps_place c =
+    let t = time_of c.args.at in
+    let x = c.args.course in
+    let k = c.in_ok-check.ensures in
+    let xs = c.args.self.now.courses.items in
+    let ys = c.replace.new.self.courses.items in
+    let i = c.in_ok-old.old in
+    let zs = remove xs i in
+    let p = c.in_ok-old.ensures.1 in
+    let h : i < length xs = p.0 in
+    let l : i ≤ length zs = omega (arith, length-remove xs i h) in
+    let o = roster_out x.number xs zs c.args.self.now.sound p.1 in
+    let q = roster_at x zs ys i o.0 c.replace.ensures in
+    let b : Between t (c.as_slice.result.now) i x = c.keeps_place.ensures.0 c.if-keeps_place.true in
+    let between : Between t xs i x = subst (λ z. Between t z i x) c.as_slice.ensures.value b in
+    let before : (k : ℕ) → k + 1 < i → pair_at ys k ≡ pair_at xs k = λ k m.
+    certs_in zs ys i x l c.replace.ensures k m ∙ certs_out xs zs nobody i h refl k m in
+    let after : (k : ℕ) → i + 1 ≤ k → pair_at ys k ≡ pair_at xs k = λ k m.
+    certs_after xs zs ys nobody x i i h l refl c.replace.ensures k (omega arith) (omega arith) in (
+      steer_accepted means c.args.self.now x k.0 k.1 (get_or xs i nobody) (p.2 nobody),
+      record {
+        there = q.0;
+        others = λ j ne. q.1 j ne ∙ o.1 j ne;
+        named = between_named xs ys c.numbers_from.result i (i + 1) c.numbers_from.ensures before after;
+        rests = λ s. rested_put t (proper c.args.at) x zs ys o.0 (c.replace.ensures ∙ kept_put t x xs i h (rests_sorted xs t s.0 s.1) p.1 between) (rested_without t x.number xs zs p.1 s);
+      },
+    )
 
 pub put_in-new-requires-clause-new : goal.put_in-new-requires-clause-new
 put_in-new-requires-clause-new c =
@@ -48,7 +87,7 @@ returns c =
       record {
         there = q.0;
         others = λ j ne. q.1 j ne ∙ o.1 j ne;
-        named = between_named xs ys c.numbers_from.result first end c.numbers_from.ensures before after;
+        named = between_named xs ys c.numbers_from-2.result first end c.numbers_from-2.ensures before after;
         rests = λ s. rested_put t (proper c.args.at) x zs ys o.0 c.put_in-new.ensures.sorted (rested_without t x.number xs zs e s);
       },
     )
