@@ -1,11 +1,11 @@
 -- Lists through an exchange, an insert and a remove, and the searches for a place.
 use Rattle.std.proofs.Common.{◌≡◌, ℕ, zero, suc, ◌+◌, ◌<◌, ◌≤◌, Bool, true, false, not, cond, eqb, ltb, ◌≢◌, List, [], ◌∷◌, length, get_or, set, Some, None, Option, is_some, sym, refl, ap, ◌∙◌, subst, inl, ⊎_elim, add-one, arith, length-set, get_or-set_other}
-use Rattle.std.specs.List.{remove, insert, swap, find, position, position_or_len, AllByRecursion}
+use Rattle.std.specs.List.{remove, insert, swap, position, position_or_len, AllByRecursion}
 use Rattle.std.specs.Option.{unwrap_or}
 use Rattle.std.proofs.lemmas.List.Edits.{swap_is, length-insert, length-remove, get_or-insert_below, get_or-insert_above, get_or-remove_below, get_or-remove_above}
-use Rattle.std.proofs.lemmas.List.Sums.{prefix_len-le-length}
+use Rattle.std.proofs.lemmas.List.Sums.{prefix_len-le-length, position_or_len_is}
 use Rattle.std.proofs.Math.Numerals.{one-add}
-use Rattle.std.proofs.lemmas.Bool.{false≢true, eqb-true, ne_eqb, ltb-true, ltb-false, cond-false, cond_both, cases_lt}
+use Rattle.std.proofs.lemmas.Bool.{false≢true, eqb-true, eq-eqb, ne_eqb, ltb-true, ltb-false, lt-ltb, cond-true, cond-false, cond_both, cases_lt}
 use Rattle.fairway.specs.declared.course.Course.{Course}
 use Rattle.fairway.specs.Times.{Time}
 use Rattle.fairway.specs.Courses.{faster}
@@ -17,7 +17,7 @@ use Rattle.fairway.proofs.Standings.{all_exchange}
 use Rattle.fairway.proofs.Advance.{loses_one}
 use Rattle.fairway.specs.Rosters.{course_of, without}
 use Rattle.fairway.proofs.Rosters.{all_without, found, of_absent}
-use Rattle.sorted_list.specs.Rosters.{well, PlaceOf}
+use Rattle.sorted_list.specs.Rosters.{well, PlaceOf, NoneBefore}
 use Rattle.event_queue.proofs.Options.{none_some, some_same}
 use Rattle.sorted_list.specs.RostersLemmas.{Fits, cert_is, cert_past, well_ranged, well_apart, to_well}
 use Rattle.fairway.specs.Lists.{pair_at}
@@ -144,11 +144,6 @@ sorted_without t n (x ∷ xs) s =
 abbrev has_number : ℕ → Course → Bool
 has_number n x = eqb x.number n
 
--- the search for the course
-pub course_found : (n : ℕ) (xs : List Course) → find (has_number n) xs ≡ course_of xs n
-course_found n [] = refl
-course_found n (x ∷ xs) = ap (cond (eqb x.number n) (Some x)) (course_found n xs)
-
 -- the first with the number, where there is one
 first_there : (n : ℕ) (xs : List Course) → position_or_len (has_number n) xs < length xs →
     (remove xs (position_or_len (has_number n) xs) ≡ without n xs) × ((d : Course) → course_of xs n ≡ Some (get_or xs (position_or_len (has_number n) xs) d))
@@ -169,12 +164,24 @@ none_there n (x ∷ xs) h =
       | false ↦ λ l. none_there n xs (omega arith)
     ]) h
 
-pub place_found : (n : ℕ) (xs : List Course) → PlaceOf xs n (position (has_number n) xs)
+place_found : (n : ℕ) (xs : List Course) → PlaceOf xs n (position (has_number n) xs)
 place_found n xs =
     let i = position_or_len (has_number n) xs in
     cond_both (ltb i (length xs)) (Some i) None (PlaceOf xs n)
     (λ t. let h = ltb-true i (length xs) t in let k = first_there n xs h in (h, k.0, k.1))
     (λ f. none_there n xs (ltb-false i (length xs) f))
+
+-- the first with the number, by what stands before it
+pub found_first : (n : ℕ) (xs : List Course) (i : ℕ) → i < length xs → NoneBefore xs i n → (get_or xs i nobody).number ≡ n → PlaceOf xs n (Some i)
+found_first n xs i h b e =
+    let p : position_or_len (has_number n) xs ≡ i =
+    position_or_len_is (has_number n) xs i nobody (omega arith) (λ k l. ne_eqb _ n (b k nobody l)) (λ l. eq-eqb _ n e) in
+    let t : ltb (position_or_len (has_number n) xs) (length xs) ≡ true = rw p (lt-ltb i (length xs) h) in
+    subst (PlaceOf xs n) (cond-true (ltb (position_or_len (has_number n) xs) (length xs)) (Some (position_or_len (has_number n) xs)) None t ∙ ap Some p) (place_found n xs)
+
+pub found_none : (n : ℕ) (xs : List Course) → NoneBefore xs (length xs) n → PlaceOf xs n None
+found_none n xs b =
+    none_there n xs (omega (arith, position_or_len_is (has_number n) xs (length xs) nobody (omega arith) (λ k l. ne_eqb _ n (b k nobody l)) (λ l. absurd (omega arith))))
 
 pub there_is : (n : ℕ) (xs : List Course) (o : Option ℕ) → PlaceOf xs n o → is_some o ≡ true → (d : Course) × (course_of xs n ≡ Some d)
 there_is n xs None p e = absurd (false≢true e)

@@ -1,5 +1,5 @@
 -- A list of courses as a roster, and its neighbours as certificates.
-use Rattle.std.specs.Prelude.{◌≡◌, ℕ, ◌<◌, Bool, true, cond, not, ◌&&◌, List, [], ◌∷◌, length, Some, None, Option, ◌==◌, nat_lt, slice_index_or}
+use Rattle.std.specs.Prelude.{◌≡◌, ◌≢◌, ℕ, ◌<◌, Bool, true, cond, not, ◌&&◌, List, [], ◌∷◌, length, Some, None, Option, ◌==◌, nat_lt, slice_index_or}
 use Rattle.std.specs.List.{remove}
 use Rattle.fairway.specs.declared.course.Course.{Course}
 use Rattle.fairway.specs.Rosters.{course_of, without}
@@ -43,3 +43,7 @@ well (x ∷ xs) = (allowed x && fresh x.number xs) && well xs
 abbrev pub PlaceOf : List Course → ℕ → Option ℕ → Type 0
 PlaceOf xs n None = course_of xs n ≡ None
 PlaceOf xs n (Some i) = (i < length xs) × (remove xs i ≡ without n xs) × ((d : Course) → course_of xs n ≡ Some (slice_index_or xs i d))
+
+-- the vessels before the place i have other numbers than n
+abbrev pub NoneBefore : List Course → ℕ → ℕ → Type 0
+NoneBefore xs i n = (k : ℕ) (d : Course) → k < i → (slice_index_or xs k d).number ≢ n

@@ -3,7 +3,7 @@ ghost use Rattle.std.specs.List.{insert};
 ghost use Rattle.fairway.specs.Stamps.{time_of};
 ghost use Rattle.fairway.specs.Orders.{put, faster_than, slower_than};
 ghost use Rattle.kinetic.specs.Numbers.{among};
-ghost use Rattle.sorted_list.specs.Rosters.{PlaceOf};
+ghost use Rattle.sorted_list.specs.Rosters.{PlaceOf, NoneBefore};
 ghost use Rattle.sorted_list.specs.Loads.{crossed};
 ghost use Rattle.sorted_list.specs.Ranks.{in_front, Between};
 ghost use Rattle.fairway.specs.Courses.{Decides};
@@ -59,11 +59,45 @@ pub(crate) fn crossings(courses: &[Course], place: usize, course: Course) -> usi
     usize::from(count_faster(&courses[..place], course) + count_slower(&courses[place..], course))
 }
 
-// The place of the vessel with a number, counted from 0 at the rear, or none.
+// The same, where the vessels before a place have other numbers.
+fn place_from(courses: &[Course], start: usize, number: u16) -> Option<usize>
+    requires within { start ≤ length courses.now }
+    requires others { NoneBefore courses.now start number }
+    ensures { PlaceOf courses.now number result }
+{
+    let mut place = start;
+    for course in &courses[start..] {
+        if course.number == number {
+            return Some(place);
+        }
+        place += 1;
+    }
+    None
+}
+
+// The place of the vessel with a number, counted from 0 at the rear, or none. Each turn looks at four: a loop over one
+// takes more instructions to count and to end than to compare.
+#[inline(never)]
 pub fn place_of(courses: &[Course], number: u16) -> Option<usize>
     ensures { PlaceOf courses.now number result }
 {
-    courses.iter().position(|course| course.number == number)
+    let mut place = 0;
+    while place + 4 <= courses.len() {
+        if courses[place].number == number {
+            return Some(place);
+        }
+        if courses[place + 1].number == number {
+            return Some(place + 1);
+        }
+        if courses[place + 2].number == number {
+            return Some(place + 2);
+        }
+        if courses[place + 3].number == number {
+            return Some(place + 3);
+        }
+        place += 4;
+    }
+    place_from(courses, place, number)
 }
 
 // The place for a course: before the first vessel, from the rear, that it is behind. It looks from one end, since

@@ -86,10 +86,8 @@ impl Structure for SortedList {
     }
 
     fn course(&self, number: u16) -> Option<Course> {
-        self.courses
-            .iter()
-            .find(|course| course.number == number)
-            .copied()
+        let place = place_of(self.courses.as_slice(), number)?;
+        Some(self.courses[place])
     }
 
     fn count(&self) -> usize {

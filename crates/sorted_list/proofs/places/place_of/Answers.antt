@@ -1,14 +1,23 @@
-use Rattle.std.proofs.Common.{◌==◌, sym, subst, rules, tests}
-use Rattle.std.proofs.lemmas.Iterator.{YieldsList-from_slice}
-use Rattle.std.proofs.lemmas.Iterator.Search.{position_from_yields_List}
-use Rattle.fairway.specs.declared.course.Course.{Course}
-use Rattle.sorted_list.specs.Rosters.{PlaceOf}
-use Rattle.sorted_list.proofs.Changes.{place_found}
+use Rattle.std.proofs.Common.{◌+◌, arith}
+use Rattle.std.proofs.lemmas.Grind.{common_steps}
+use Rattle.sorted_list.specs.Rosters.{NoneBefore}
+use Rattle.sorted_list.proofs.Changes.{found_first}
 use Rattle.sorted_list.proofs.places.place_of.Goals as goal
 
-pub returns : goal.returns
-returns c =
-    let n = c.args.number in
-    let xs = c.args.courses.now in
-    let e = position_from_yields_List (λ (x : Course). x.number == n) _ _ c.position.result c.position.ensures.ran (YieldsList-from_slice xs cc) (λ x b q k. search (rules, tests)) in
-    subst (PlaceOf xs n) (sym e) (place_found n xs)
+pub returns-then-courses-place : goal.returns-then-courses-place
+returns-then-courses-place c = found_first c.args.number c.args.courses.now c.loop-place.place (omega arith) c.loop-place.invariant.1 (grind (arith, common_steps))
+
+pub returns-then-courses-place-2 : goal.returns-then-courses-place-2
+returns-then-courses-place-2 c =
+    let b : NoneBefore c.args.courses.now (c.loop-place.place + 1) c.args.number = grind (arith, common_steps) in
+    found_first c.args.number c.args.courses.now (c.loop-place.place + 1) (omega arith) b (grind (arith, common_steps))
+
+pub returns-then-courses-place-3 : goal.returns-then-courses-place-3
+returns-then-courses-place-3 c =
+    let b : NoneBefore c.args.courses.now (c.loop-place.place + 2) c.args.number = grind (arith, common_steps) in
+    found_first c.args.number c.args.courses.now (c.loop-place.place + 2) (omega arith) b (grind (arith, common_steps))
+
+pub returns-then-courses-place-4 : goal.returns-then-courses-place-4
+returns-then-courses-place-4 c =
+    let b : NoneBefore c.args.courses.now (c.loop-place.place + 3) c.args.number = grind (arith, common_steps) in
+    found_first c.args.number c.args.courses.now (c.loop-place.place + 3) (omega arith) b (grind (arith, common_steps))
