@@ -1,11 +1,9 @@
 -- One course in the place of another.
-use Rattle.std.proofs.Common.{◌≡◌, ℕ, zero, suc, ◌+◌, ◌<◌, ◌≤◌, true, false, cond, eqb, ◌≢◌, List, [], ◌∷◌, length, take, drop, get_or, set, Some, None, sym, refl, ap, ◌∙◌, subst, arith}
+use Rattle.std.proofs.Common.{◌≡◌, ℕ, zero, suc, ◌+◌, ◌<◌, ◌≤◌, true, cond, eqb, ◌≢◌, List, [], ◌∷◌, length, get_or, set, Some, None, sym, refl, ap, ◌∙◌, subst, arith}
 use Rattle.std.specs.List.{remove, insert, AllByRecursion}
 use Rattle.std.proofs.lemmas.Bool.{cond-true, cond-false, eq-eqb, ne_eqb}
-use Rattle.std.proofs.lemmas.Int.{ints}
-use Rattle.std.proofs.lemmas.List.{set-get_or, get_or-set_same, length-set}
+use Rattle.std.proofs.lemmas.List.{set-get_or}
 use Rattle.std.proofs.lemmas.List.Edits.{length-remove, get_or-remove_below, get_or-remove_above}
-use Rattle.fairway.specs.Courses.{faster}
 use Rattle.fairway.specs.Times.{Time}
 use Rattle.fairway.specs.Behind.{behind}
 use Rattle.fairway.specs.Orders.{Apart, Sorted, put, load}
@@ -14,7 +12,6 @@ use Rattle.fairway.specs.declared.course.Course.{Course}
 use Rattle.fairway.proofs.Laws.{transitive}
 use Rattle.fairway.proofs.Rosters.{of_absent}
 use Rattle.fairway.proofs.Sorting.{back}
-use Rattle.fairway.proofs.Totals.{over, over_is}
 use Rattle.sorted_list.specs.Ranks.{Between}
 use Rattle.sorted_list.specs.Rosters.{well}
 use Rattle.sorted_list.specs.Loads.{crossed}
@@ -97,44 +94,8 @@ module _ (t : Time) (c : Course) where
       (λ d m. rw (get_or-remove_above xs i d i (omega arith) h) (b.1 d (omega arith)))
 
 -- ---- the load
-not_faster : (c : Course) → faster c c ≡ false
-not_faster c = grind (arith, ints)
+pub load_set : (xs : List Course) (i : ℕ) (c : Course) → i < length xs → load (set xs i c) ≡ load (remove xs i) + crossed (remove xs i) i c
+load_set xs i c h = ap load (set_at xs i c h) ∙ load_inserted (remove xs i) i c
 
-one_own : (c : Course) → cond {A = ℕ} (faster c c) 1 0 ≡ 0
-one_own c = cond-false {A = ℕ} (faster c c) 1 0 (not_faster c)
-
--- a course makes no pair with itself
-over_own : (xs : List Course) (i : ℕ) (c : Course) → i ≤ length xs →
-    over (λ y. cond (faster y c) 1 0) (take i (insert xs i c)) + over (λ y. cond (faster c y) 1 0) (drop i (insert xs i c))
-    ≡ over (λ y. cond (faster y c) 1 0) (take i xs) + over (λ y. cond (faster c y) 1 0) (drop i xs)
-over_own [] zero c h = omega (arith, one_own c)
-over_own [] (suc i) c h = absurd (omega arith)
-over_own (x ∷ xs) zero c h = omega (arith, one_own c)
-over_own (x ∷ xs) (suc i) c h = omega (arith, over_own xs i c (omega arith))
-
-crossed_own : (xs : List Course) (i : ℕ) (c : Course) → i ≤ length xs → crossed (insert xs i c) i c ≡ crossed xs i c
-crossed_own xs i c h =
-    omega (
-      arith,
-      over_own xs i c h,
-      over_is (λ y. cond (faster y c) 1 0) (take i (insert xs i c)),
-      over_is (λ y. cond (faster c y) 1 0) (drop i (insert xs i c)),
-      over_is (λ y. cond (faster y c) 1 0) (take i xs),
-      over_is (λ y. cond (faster c y) 1 0) (drop i xs),
-    )
-
--- the pairs without the course at a place, and those that it makes
-pub load_with : (xs : List Course) (i : ℕ) (c : Course) → i < length xs → c ≡ get_or xs i c → load xs ≡ load (remove xs i) + crossed xs i c
-load_with xs i c h q =
-    let zs = remove xs i in
-    let from : xs ≡ insert zs i c = sym (set-get_or xs i c) ∙ ap (set xs i) (sym q) ∙ set_at xs i c h in
-    omega (arith, ap load from, load_inserted zs i c, ap (λ z. crossed z i c) from, crossed_own zs i c (omega (arith, length-remove xs i h)))
-
-remove_set : (xs : List Course) (i : ℕ) (c : Course) → remove (set xs i c) i ≡ remove xs i
-remove_set [] i c = refl
-remove_set (x ∷ xs) zero c = refl
-remove_set (x ∷ xs) (suc i) c = ap (λ l. x ∷ l) (remove_set xs i c)
-
-pub load_set : (xs : List Course) (i : ℕ) (c : Course) → i < length xs → load (set xs i c) ≡ load (remove xs i) + crossed (set xs i c) i c
-load_set xs i c h =
-    load_with (set xs i c) i c (omega (arith, length-set xs i c)) (sym (get_or-set_same xs i c c h)) ∙ ap (λ l. load l + crossed (set xs i c) i c) (remove_set xs i c)
+pub load_with : (xs : List Course) (i : ℕ) (c : Course) → i < length xs → c ≡ get_or xs i c → load xs ≡ load (remove xs i) + crossed (remove xs i) i c
+load_with xs i c h q = ap load (sym (set-get_or xs i c) ∙ ap (set xs i) (sym q)) ∙ load_set xs i c h

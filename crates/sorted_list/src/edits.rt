@@ -10,7 +10,7 @@ ghost use Rattle.fairway.specs.Lists.{pair_at};
 ghost use Rattle.fairway.specs.Orders.{pair};
 
 use crate::list::SortedList;
-use crate::places::{crossings, place_for};
+use crate::places::{crossings, crossings_of_each, place_for};
 use fairway::course::Course;
 use fairway::stamp::Stamp;
 use std::alloc::{AllocError, Global};
@@ -53,9 +53,9 @@ impl SortedList {
         ensures { self.new.courses.items ≡ insert (remove self.old.courses.items place) place course }
     {
         let old = self.courses[place];
-        self.load -= crossings(self.courses.as_slice(), place, old);
+        let (lost, gained) = crossings_of_each(self.courses.as_slice(), place, old, course);
         self.courses[place] = course;
-        self.load += crossings(self.courses.as_slice(), place, course);
+        self.load = self.load - lost + gained;
     }
 
     // Puts a new vessel in its place, and answers the place.

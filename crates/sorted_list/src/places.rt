@@ -1,5 +1,5 @@
 ghost use Rattle.std.specs.Prelude.{◌≡◌, ℕ, ◌+◌, ◌<◌, ◌≤◌, true, false, length};
-ghost use Rattle.std.specs.List.{insert};
+ghost use Rattle.std.specs.List.{insert, remove};
 ghost use Rattle.fairway.specs.Stamps.{time_of};
 ghost use Rattle.fairway.specs.Orders.{put, faster_than, slower_than};
 ghost use Rattle.kinetic.specs.Numbers.{among};
@@ -48,6 +48,59 @@ pub(crate) fn count_in_front(courses: &[Course], own: Course, at: Stamp) -> usiz
         .iter()
         .filter(|other| own.is_behind(**other, at))
         .count()
+}
+
+// How many of the courses are faster than a front with one course, and with another. Two counts in one loop look at
+// each speed once.
+fn count_faster_than_each(courses: &[Course], one: Course, other: Course) -> (u16, u16)
+    requires { length courses.now ≤ 64 }
+    ensures one { result.0 ≡ faster_than one courses.now }
+    ensures other { result.1 ≡ faster_than other courses.now }
+    ensures few { (result.0 ≤ 64) × (result.1 ≤ 64) }
+{
+    let mut of_one: u16 = 0;
+    let mut of_other: u16 = 0;
+    for rear in courses {
+        of_one += u16::from(rear.is_faster(one));
+        of_other += u16::from(rear.is_faster(other));
+    }
+    (of_one, of_other)
+}
+
+// How many of the courses are slower than a rear with one course, and with another.
+fn count_slower_than_each(courses: &[Course], one: Course, other: Course) -> (u16, u16)
+    requires { length courses.now ≤ 64 }
+    ensures one { result.0 ≡ slower_than one courses.now }
+    ensures other { result.1 ≡ slower_than other courses.now }
+    ensures few { (result.0 ≤ 64) × (result.1 ≤ 64) }
+{
+    let mut of_one: u16 = 0;
+    let mut of_other: u16 = 0;
+    for front in courses {
+        of_one += u16::from(one.is_faster(*front));
+        of_other += u16::from(other.is_faster(*front));
+    }
+    (of_one, of_other)
+}
+
+// The pairs with a faster rear that a vessel makes with the others, from its place, with one course and with another.
+pub(crate) fn crossings_of_each(
+    courses: &[Course],
+    place: usize,
+    one: Course,
+    other: Course,
+) -> (usize, usize)
+    requires { (place < length courses.now) × (length courses.now ≤ 64) }
+    ensures one { result.0 ≡ crossed (remove courses.now place) place one }
+    ensures other { result.1 ≡ crossed (remove courses.now place) place other }
+    ensures few { (result.0 ≤ 128) × (result.1 ≤ 128) }
+{
+    let rears = count_faster_than_each(&courses[..place], one, other);
+    let fronts = count_slower_than_each(&courses[place + 1..], one, other);
+    (
+        usize::from(rears.0 + fronts.0),
+        usize::from(rears.1 + fronts.1),
+    )
 }
 
 // The pairs with a faster rear that a course makes with those before and after its place.
