@@ -1,13 +1,12 @@
 -- The columns of the cells, through a read and a write.
-use Rattle.std.proofs.Common.{◌≡◌, ℕ, ◌<◌, ◌≤◌, List, length, get_or, set, Some, None, Option, slice_index_or, refl, arith}
-use Rattle.event_queue.proofs.Columns.{map_kept, map_past}
-use Rattle.event_queue.proofs.Keyed.{held_cell}
+use Rattle.std.proofs.Common.{◌≡◌, ℕ, ◌<◌, List, length, get_or, set, Some, None, Option, refl}
+use Rattle.event_queue.proofs.Columns.{map_kept}
 use Rattle.std.proofs.lemmas.List.{map-set, length-map, get_or-map}
-use Rattle.binary_heap.specs.Slots.{Columns, columns, cell_key, ticket_at, with_key, with_ticket, with_slot}
+use Rattle.binary_heap.specs.Slots.{Columns, columns, slot_of, ticket_at, key_at, with_key, with_entry, with_slot}
 use Rattle.binary_heap.specs.declared.cell.Cell.{Cell}
 
-pub columns_from : {K : Type 0} {k k' : List (Option K)} {s s' i i' : List ℕ} → k ≡ k' → s ≡ s' → i ≡ i' → ◌≡◌ {A = Columns K} (record { key = k; slot = s; ticket = i }) (record { key = k'; slot = s'; ticket = i' })
-columns_from e f g = rw (e, f, g)
+pub columns_from : {K : Type 0} {k k' : List (Option K)} {s s' i i' : List ℕ} {r r' : List (Option K)} → k ≡ k' → s ≡ s' → i ≡ i' → r ≡ r' → ◌≡◌ {A = Columns K} (record { key = k; slot = s; ticket = i; rank = r }) (record { key = k'; slot = s'; ticket = i'; rank = r' })
+columns_from e f g h = rw (e, f, g, h)
 
 module _ {K : Type 0} (cells : List (Cell K)) where
   pub key_length : length (columns cells).key ≡ length cells
@@ -19,25 +18,26 @@ module _ {K : Type 0} (cells : List (Cell K)) where
   pub ticket_length : length (columns cells).ticket ≡ length cells
   ticket_length = length-map cells (λ c. c.ticket)
 
+  pub rank_length : length (columns cells).rank ≡ length cells
+  rank_length = length-map cells (λ c. Some c.rank)
+
   module _ (i : ℕ) (d : Cell K) where
-    pub key_set : (k : Option K) → columns (set cells i (record { key = k; slot = (get_or cells i d).slot; ticket = (get_or cells i d).ticket })) ≡ with_key (columns cells) i k
-    key_set k = columns_from (map-set (λ c. c.key) cells i _) (map_kept (λ c. c.slot) cells i d _ refl) (map_kept (λ c. c.ticket) cells i d _ refl)
+    pub key_set : (k : Option K) → columns (set cells i (record { key = k; slot = (get_or cells i d).slot; ticket = (get_or cells i d).ticket; rank = (get_or cells i d).rank })) ≡ with_key (columns cells) i k
+    key_set k = columns_from (map-set (λ c. c.key) cells i _) (map_kept (λ c. c.slot) cells i d _ refl) (map_kept (λ c. c.ticket) cells i d _ refl) (map_kept (λ c. Some c.rank) cells i d _ refl)
 
-    pub slot_set : (s : ℕ) → columns (set cells i (record { key = (get_or cells i d).key; slot = s; ticket = (get_or cells i d).ticket })) ≡ with_slot (columns cells) i s
-    slot_set s = columns_from (map_kept (λ c. c.key) cells i d _ refl) (map-set (λ c. c.slot) cells i _) (map_kept (λ c. c.ticket) cells i d _ refl)
+    pub slot_set : (s : ℕ) → columns (set cells i (record { key = (get_or cells i d).key; slot = s; ticket = (get_or cells i d).ticket; rank = (get_or cells i d).rank })) ≡ with_slot (columns cells) i s
+    slot_set s = columns_from (map_kept (λ c. c.key) cells i d _ refl) (map-set (λ c. c.slot) cells i _) (map_kept (λ c. c.ticket) cells i d _ refl) (map_kept (λ c. Some c.rank) cells i d _ refl)
 
-    pub ticket_set : (t : ℕ) → columns (set cells i (record { key = (get_or cells i d).key; slot = (get_or cells i d).slot; ticket = t })) ≡ with_ticket (columns cells) i t
-    ticket_set t = columns_from (map_kept (λ c. c.key) cells i d _ refl) (map_kept (λ c. c.slot) cells i d _ refl) (map-set (λ c. c.ticket) cells i _)
+    pub entry_set : (t : ℕ) (k : K) → columns (set cells i (record { key = (get_or cells i d).key; slot = (get_or cells i d).slot; ticket = t; rank = k })) ≡ with_entry (columns cells) i t (Some k)
+    entry_set t k = columns_from (map_kept (λ c. c.key) cells i d _ refl) (map_kept (λ c. c.slot) cells i d _ refl) (map-set (λ c. c.ticket) cells i _) (map-set (λ c. Some c.rank) cells i _)
 
     module _ (h : i < length cells) where
       pub ticket_read : ticket_at (columns cells) i ≡ (get_or cells i d).ticket
       ticket_read = get_or-map (λ c. c.ticket) cells i d 0 h
 
-  -- a ticket that holds a key has a cell
-  pub key_within : (i : ℕ) (k : K) → slice_index_or (columns cells).key i None ≡ Some k → i < length (columns cells).key
-  key_within i k held = omega (arith, held_cell cell_key cells i k held, key_length)
+      pub slot_read : slot_of (columns cells) i ≡ (get_or cells i d).slot
+      slot_read = get_or-map (λ c. c.slot) cells i d 0 h
 
-  -- a write past the cells does nothing
-  module _ (i : ℕ) (h : length cells ≤ i) where
-    pub key_unset : (k : Option K) → columns cells ≡ with_key (columns cells) i k
-    key_unset k = columns_from (map_past (λ c. c.key) cells i k h) refl refl
+      pub rank_read : key_at (columns cells) i ≡ Some (get_or cells i d).rank
+      unfolding key_at
+      rank_read = get_or-map (λ c. Some c.rank) cells i d None h

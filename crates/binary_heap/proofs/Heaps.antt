@@ -4,16 +4,15 @@ use Rattle.event_queue.specs.Orders.{sooner}
 use Rattle.event_queue.specs.Queues.{count_below}
 use Rattle.event_queue.proofs.Orders.{Total}
 use Rattle.event_queue.proofs.Counts.{count_none, count_more, count_room, count_some}
-use Rattle.std.proofs.lemmas.List.{get_or-set_same}
 use Rattle.binary_heap.specs.declared.cell.Cell.{Cell}
-use Rattle.binary_heap.specs.Slots.{Columns, columns, cell_key, key_of, slot_of, ticket_at, key_at, with_key, seated, Seat, Linked}
+use Rattle.binary_heap.specs.Slots.{Columns, columns, cell_key, key_of, slot_of, ticket_at, key_at, with_key, seated, Linked}
 use Rattle.binary_heap.specs.Orders.{Upward, Loose}
 use Rattle.binary_heap.specs.Sifts.{Settled}
 use Rattle.binary_heap.specs.Sound.{Sound, Keyed}
 use Rattle.binary_heap.proofs.Columns.{key_length}
 use Rattle.binary_heap.proofs.Sifting.{top_first}
 use Rattle.binary_heap.proofs.Sifts.{cells_even}
-use Rattle.binary_heap.proofs.Seating.{insert_linked, insert_upward, remove_linked, remove_loose, remove_ordered, last_holds, last_stands}
+use Rattle.binary_heap.proofs.Seating.{insert_linked, insert_upward, remove_linked, remove_loose, remove_ordered, last_stands}
 use Rattle.event_queue.proofs.Options.{some_none}
 use Rattle.event_queue.proofs.Keyed.{held_cell, keyed_length, keyed_there, keyed_others}
 
@@ -26,17 +25,14 @@ module _ {K : Type 0} (before : K → K → Bool) (cells cells' : List (Cell K))
   pub room_left : n < length cells
   room_left = omega (arith, S.counted, count_room (holding cells) (length cells) i hi (ap is_some free))
 
-  pub insert_settles : (u : Columns K) → u ≡ seated (with_key (columns cells) i (Some k)) n i → ((m : ℕ) → n < m → Linked u m → Upward before (key_at u) m n → Settled before u (columns cells') m) → Settled before (seated (with_key (columns cells) i (Some k)) n i) (columns cells') (n + 1)
+  pub insert_settles : (u : Columns K) → u ≡ seated (with_key (columns cells) i (Some k)) n i (Some k) → ((m : ℕ) → n < m → Linked u m → Upward before (key_at u) m n → Settled before u (columns cells') m) → Settled before (seated (with_key (columns cells) i (Some k)) n i (Some k)) (columns cells') (n + 1)
   insert_settles u e sift =
       let t = columns cells in
       let l = insert_linked before t (cells_even cells) n i k S.linked (omega (arith, room_left, key_length cells)) (omega (arith, key_length cells)) free in
       let w = insert_upward before t (cells_even cells) n i k S.linked (omega (arith, room_left, key_length cells)) (omega (arith, key_length cells)) free S.ordered in
       subst (λ z. (Linked z (n + 1) → Upward before (key_at z) (n + 1) n → Settled before z (columns cells') (n + 1))) e (sift (n + 1) (omega arith)) l w
 
-  pub given_key : (u : Columns K) → u ≡ with_key (columns cells) i (Some k) → key_of u i ≡ Some k
-  given_key u e = ap (λ w. key_of w i) e ∙ get_or-set_same (columns cells).key i (Some k) None (omega (arith, hi, key_length cells))
-
-  pub inserted : Settled before (seated (with_key (columns cells) i (Some k)) n i) (columns cells') (n + 1) → Keyed before cells cells' (n + 1) i (Some k)
+  pub inserted : Settled before (seated (with_key (columns cells) i (Some k)) n i (Some k)) (columns cells') (n + 1) → Keyed before cells cells' (n + 1) i (Some k)
   inserted z = record {
     sound = record {
       linked = z.linked;
@@ -51,24 +47,24 @@ module _ {K : Type 0} (before : K → K → Bool) (cells cells' : List (Cell K))
   pub some_held : 0 < n
   some_held = omega (arith, S.counted, count_some (holding cells) (length cells) i (held_cell cell_key cells i k held) (ap is_some held))
 
-  pub remove_settles : Total before → (u : Columns K) → u ≡ seated (with_key (columns cells) i None) (slot_of (columns cells) i) (ticket_at (columns cells) (n - 1)) → slot_of (columns cells) i < n - 1 → (Linked u (n - 1) → Loose before (key_at u) (n - 1) (slot_of (columns cells) i) → Settled before u (columns cells') (n - 1)) → Settled before (seated (with_key (columns cells) i None) (slot_of (columns cells) i) (ticket_at (columns cells) (n - 1))) (columns cells') (n - 1)
+  pub remove_settles : Total before → (u : Columns K) → u ≡ seated (with_key (columns cells) i None) (slot_of (columns cells) i) (ticket_at (columns cells) (n - 1)) (key_at (columns cells) (n - 1)) → slot_of (columns cells) i < n - 1 → (Linked u (n - 1) → Loose before (key_at u) (n - 1) (slot_of (columns cells) i) → Settled before u (columns cells') (n - 1)) → Settled before (seated (with_key (columns cells) i None) (slot_of (columns cells) i) (ticket_at (columns cells) (n - 1)) (key_at (columns cells) (n - 1))) (columns cells') (n - 1)
   remove_settles o u e h sift =
       let t = columns cells in
       subst (λ z. (Linked z (n - 1) → Loose before (key_at z) (n - 1) (slot_of t i) → Settled before z (columns cells') (n - 1))) e sift
       (remove_linked before t (cells_even cells) n i k S.linked some_held held)
       (remove_loose before t (cells_even cells) n i k S.linked some_held held o h S.ordered)
 
-  pub remove_last : n - 1 ≤ slot_of (columns cells) i → columns cells' ≡ seated (with_key (columns cells) i None) (slot_of (columns cells) i) (ticket_at (columns cells) (n - 1)) → Settled before (seated (with_key (columns cells) i None) (slot_of (columns cells) i) (ticket_at (columns cells) (n - 1))) (columns cells') (n - 1)
+  pub remove_last : n - 1 ≤ slot_of (columns cells) i → columns cells' ≡ seated (with_key (columns cells) i None) (slot_of (columns cells) i) (ticket_at (columns cells) (n - 1)) (key_at (columns cells) (n - 1)) → Settled before (seated (with_key (columns cells) i None) (slot_of (columns cells) i) (ticket_at (columns cells) (n - 1)) (key_at (columns cells) (n - 1))) (columns cells') (n - 1)
   remove_last h e =
       let t = columns cells in
-      subst (λ z. Settled before (seated (with_key t i None) (slot_of t i) (ticket_at t (n - 1))) z (n - 1)) (sym e)
+      subst (λ z. Settled before (seated (with_key t i None) (slot_of t i) (ticket_at t (n - 1)) (key_at t (n - 1))) z (n - 1)) (sym e)
       (record {
         keys = refl;
         linked = remove_linked before t (cells_even cells) n i k S.linked some_held held;
         ordered = remove_ordered before t (cells_even cells) n i k S.linked some_held held h S.ordered;
       })
 
-  pub removed : Settled before (seated (with_key (columns cells) i None) (slot_of (columns cells) i) (ticket_at (columns cells) (n - 1))) (columns cells') (n - 1) → Keyed before cells cells' (n - 1) i None
+  pub removed : Settled before (seated (with_key (columns cells) i None) (slot_of (columns cells) i) (ticket_at (columns cells) (n - 1)) (key_at (columns cells) (n - 1))) (columns cells') (n - 1) → Keyed before cells cells' (n - 1) i None
   removed z =
       let hi = held_cell cell_key cells i k held in
       let more = count_more (holding cells') (holding cells) (length cells) i hi (ap is_some (keyed_there cell_key cells cells' i None z.keys hi)) (ap is_some held) (λ j h. ap is_some (sym (keyed_others cell_key cells cells' i None z.keys j h))) in
@@ -82,30 +78,25 @@ module _ {K : Type 0} (before : K → K → Bool) (cells cells' : List (Cell K))
         keys = z.keys;
       }
 
--- the key that is read of a slot is that of its ticket
-slot_key : {K : Type 0} (u : Columns K) (s i : ℕ) (k : K) → i ≡ ticket_at u s → key_at u s ≡ Some k → key_of u i ≡ Some k
-unfolding key_at
-slot_key u s i k ei e = ap (key_of u) ei ∙ e
-
 -- a removal as the code makes it: with a sift, and at the last slot without
 module _ {K : Type 0} (before : K → K → Bool) (cells cells' : List (Cell K)) (n i : ℕ) (k : K) (S : Sound before cells n) (held : key_of (columns cells) i ≡ Some k) (s : ℕ) (es : s ≡ slot_of (columns cells) i) (u : Columns K) (eu : u ≡ with_key (columns cells) i None) where
-  -- the ticket m of the last slot was read after the key was written
-  module _ (h : s < n - 1) (m : ℕ) (em : m ≡ ticket_at u (n - 1)) where
+  -- the ticket m and the key k' of the last slot were read after the key was written
+  module _ (h : s < n - 1) (m : ℕ) (em : m ≡ ticket_at u (n - 1)) (k' : K) (ek : key_at u (n - 1) ≡ Some k') where
     last_ticket : m ≡ ticket_at (columns cells) (n - 1)
     last_ticket = em ∙ ap (λ w. ticket_at w (n - 1)) eu
 
-    seated_as : seated u s m ≡ seated (with_key (columns cells) i None) (slot_of (columns cells) i) (ticket_at (columns cells) (n - 1))
-    seated_as = ap (λ w. seated w s m) eu ∙ ap (λ z. seated (with_key (columns cells) i None) z m) es ∙ ap (λ z. seated (with_key (columns cells) i None) (slot_of (columns cells) i) z) last_ticket
+    last_key : Some k' ≡ key_at (columns cells) (n - 1)
+    unfolding key_at
+    last_key = sym ek ∙ ap (λ w. key_at w (n - 1)) eu
 
-    pub remove_sifted : Total before → (k' : K) → key_at u (n - 1) ≡ Some k' → (key_of u m ≡ Some k' → Linked (seated u s m) (n - 1) → Loose before (key_at (seated u s m)) (n - 1) s → Settled before (seated u s m) (columns cells') (n - 1)) → Keyed before cells cells' (n - 1) i None
-    remove_sifted o k' ek sift =
+    seated_as : seated u s m (Some k') ≡ seated (with_key (columns cells) i None) (slot_of (columns cells) i) (ticket_at (columns cells) (n - 1)) (key_at (columns cells) (n - 1))
+    seated_as = rw (eu, es, last_ticket, last_key)
+
+    pub remove_sifted : Total before → (Linked (seated u s m (Some k')) (n - 1) → Loose before (key_at (seated u s m (Some k'))) (n - 1) s → Settled before (seated u s m (Some k')) (columns cells') (n - 1)) → Keyed before cells cells' (n - 1) i None
+    remove_sifted o sift =
         removed before cells cells' n i k S held
-        (remove_settles before cells cells' n i k S held o (seated u s m) seated_as (subst (λ z. z < n - 1) es h)
-        (λ l w. sift (slot_key u (n - 1) m k' em ek) l (subst (λ z. Loose before (key_at (seated u s m)) (n - 1) z) (sym es) w)))
-
-  pub last_keyed : s < n - 1 → key_at u (n - 1) ≡ None → ⊥
-  last_keyed h none =
-      some_none (key_at u (n - 1)) _ (ap (λ w. key_at w (n - 1)) eu ∙ last_holds before (columns cells) (cells_even cells) n i k S.linked (some_held before cells cells' n i k S held) held (subst (λ z. z < n - 1) es h)) none
+        (remove_settles before cells cells' n i k S held o (seated u s m (Some k')) seated_as (subst (λ z. z < n - 1) es h)
+        (λ l w. sift l (subst (λ z. Loose before (key_at (seated u s m (Some k'))) (n - 1) z) (sym es) w)))
 
   pub remove_unsifted : n - 1 ≤ s → columns cells' ≡ u → Keyed before cells cells' (n - 1) i None
   remove_unsifted h e =
@@ -114,18 +105,18 @@ module _ {K : Type 0} (before : K → K → Bool) (cells cells' : List (Cell K))
       (remove_last before cells cells' n i k S held last
       (e ∙ eu ∙ last_stands before (columns cells) (cells_even cells) n i k S.linked (some_held before cells cells' n i k S held) held last))
 
--- the ticket in the first slot comes first
+-- what stands in the first slot comes first
 module _ {K : Type 0} (before : K → K → Bool) (cells : List (Cell K)) (n : ℕ) (S : Sound before cells n) where
-  pub first_held : 0 < n → Seat (columns cells) 0
-  first_held h = S.linked.seats 0 h
+  pub first_held : 0 < n → (i : ℕ) (first : K) → i ≡ ticket_at (columns cells) 0 → key_at (columns cells) 0 ≡ Some first → key_of (columns cells) i ≡ Some first
+  first_held h i first ei e = ap (key_of (columns cells)) ei ∙ (S.linked.seats 0 h).holds ∙ sym (S.linked.seats 0 h).rank ∙ e
 
-  pub first_least : Total before → (first : K) → key_of (columns cells) (ticket_at (columns cells) 0) ≡ Some first → (i : ℕ) (k : K) → key_of (columns cells) i ≡ Some k → before k first ≡ false
-  unfolding key_at
+  pub first_least : Total before → (first : K) → key_at (columns cells) 0 ≡ Some first → (i : ℕ) (k : K) → key_of (columns cells) i ≡ Some k → before k first ≡ false
   first_least o first e i k h =
       let t = columns cells in
       let s = slot_of t i in
       let b = S.linked.within i k h in
-      let at : key_at t s ≡ Some k = ap (key_of t) (S.linked.there i k h) ∙ h in
+      let seat = S.linked.seats s b in
+      let at : key_at t s ≡ Some k = seat.rank ∙ sym seat.holds ∙ ap (key_of t) (S.linked.there i k h) ∙ h in
       let w : sooner before (key_at t s) (key_at t 0) ≡ false = top_first before o (key_at t) n S.ordered s s (omega arith) b in
       subst (λ y. sooner before (Some k) y ≡ false) e (subst (λ x. sooner before x (key_at t 0) ≡ false) at w)
 

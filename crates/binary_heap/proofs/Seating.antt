@@ -8,67 +8,70 @@ use Rattle.event_queue.proofs.Orders.{Total, sooner_carries}
 use Rattle.binary_heap.specs.Slots.{Columns, key_of, slot_of, ticket_at, key_at, with_key, seated, Seat, Linked}
 use Rattle.binary_heap.specs.Orders.{parent, Ordered, Upward, Loose}
 use Rattle.binary_heap.proofs.Columns.{columns_from}
-use Rattle.binary_heap.proofs.Seats.{Even, seated_ticket, seated_slot, seated_ticket_other, seated_slot_other, seat_from}
+use Rattle.binary_heap.proofs.Seats.{Even, seated_ticket, seated_slot, seated_key, seated_ticket_other, seated_slot_other, seated_key_other, seat_from}
 use Rattle.binary_heap.proofs.Sifting.{later_as}
 
 -- The ticket i, which holds no key, gets one and stands in the slot n.
 module _ {K : Type 0} (before : K → K → Bool) (t : Columns K) (even : Even t) (n i : ℕ) (k : K) (l : Linked t n) (hn : n < length t.key) (hi : i < length t.key) (free : key_of t i ≡ None) where
   keyed_even : Even (with_key t i (Some k))
-  keyed_even = record { slot = even.slot ∙ sym (length-set t.key i (Some k)); ticket = even.ticket ∙ sym (length-set t.key i (Some k)) }
+  keyed_even = record { slot = even.slot ∙ sym (length-set t.key i (Some k)); ticket = even.ticket ∙ sym (length-set t.key i (Some k)); rank = even.rank ∙ sym (length-set t.key i (Some k)) }
 
-  key_here : key_of (seated (with_key t i (Some k)) n i) i ≡ Some k
+  key_here : key_of (seated (with_key t i (Some k)) n i (Some k)) i ≡ Some k
   key_here = get_or-set_same t.key i (Some k) None hi
 
-  key_other : (j : ℕ) → j ≢ i → key_of (seated (with_key t i (Some k)) n i) j ≡ key_of t j
+  key_other : (j : ℕ) → j ≢ i → key_of (seated (with_key t i (Some k)) n i (Some k)) j ≡ key_of t j
   key_other j h = get_or-set_other t.key i j (Some k) None h
 
-  ticket_other : (s : ℕ) → s < n → ticket_at (seated (with_key t i (Some k)) n i) s ≡ ticket_at t s
-  ticket_other s h = seated_ticket_other (with_key t i (Some k)) keyed_even n i s (λ e. omega arith)
+  ticket_other : (s : ℕ) → s < n → ticket_at (seated (with_key t i (Some k)) n i (Some k)) s ≡ ticket_at t s
+  ticket_other s h = seated_ticket_other (with_key t i (Some k)) keyed_even n i (Some k) s (λ e. omega arith)
 
-  slot_other : (j : ℕ) → j ≢ i → slot_of (seated (with_key t i (Some k)) n i) j ≡ slot_of t j
-  slot_other j h = seated_slot_other (with_key t i (Some k)) keyed_even n i j h
+  slot_other : (j : ℕ) → j ≢ i → slot_of (seated (with_key t i (Some k)) n i (Some k)) j ≡ slot_of t j
+  slot_other j h = seated_slot_other (with_key t i (Some k)) keyed_even n i (Some k) j h
 
   longer : (m : ℕ) → m < length t.key → m < length (set t.key i (Some k))
   longer m h = omega (arith, length-set t.key i (Some k))
 
-  ticket_here : ticket_at (seated (with_key t i (Some k)) n i) n ≡ i
-  ticket_here = seated_ticket (with_key t i (Some k)) keyed_even n i (longer n hn)
+  ticket_here : ticket_at (seated (with_key t i (Some k)) n i (Some k)) n ≡ i
+  ticket_here = seated_ticket (with_key t i (Some k)) keyed_even n i (Some k) (longer n hn)
 
-  slot_here : slot_of (seated (with_key t i (Some k)) n i) i ≡ n
-  slot_here = seated_slot (with_key t i (Some k)) keyed_even n i (longer i hi)
+  slot_here : slot_of (seated (with_key t i (Some k)) n i (Some k)) i ≡ n
+  slot_here = seated_slot (with_key t i (Some k)) keyed_even n i (Some k) (longer i hi)
+
+  rank_here : key_at (seated (with_key t i (Some k)) n i (Some k)) n ≡ Some k
+  rank_here = seated_key (with_key t i (Some k)) keyed_even n i (Some k) (longer n hn)
+
+  same_key : (s : ℕ) → s < n → key_at (seated (with_key t i (Some k)) n i (Some k)) s ≡ key_at t s
+  unfolding key_at
+  same_key s h = seated_key_other (with_key t i (Some k)) keyed_even n i (Some k) s (λ e. omega arith)
 
   -- a ticket in a slot is not i
   taken : (s : ℕ) (h : s < n) → ticket_at t s ≢ i
   taken s h e = some_none (key_of t (ticket_at t s)) (l.seats s h).key (l.seats s h).holds (ap (key_of t) e ∙ free)
 
-  seat : (s : ℕ) → s < n + 1 → Seat (seated (with_key t i (Some k)) n i) s
+  seat : (s : ℕ) → s < n + 1 → Seat (seated (with_key t i (Some k)) n i (Some k)) s
   seat s h =
       ⊎_elim
-      (λ e. subst (λ z. Seat (seated (with_key t i (Some k)) n i) z) (sym e) (seat_from (seated (with_key t i (Some k)) n i) n i k ticket_here (longer i hi) slot_here key_here))
+      (λ e. subst (λ z. Seat (seated (with_key t i (Some k)) n i (Some k)) z) (sym e) (seat_from (seated (with_key t i (Some k)) n i (Some k)) n i k ticket_here (longer i hi) slot_here key_here rank_here))
       (λ e. let b : s < n = omega arith in
-      seat_from (seated (with_key t i (Some k)) n i) s (ticket_at t s) (l.seats s b).key (ticket_other s b) (longer _ (l.seats s b).cell) (slot_other (ticket_at t s) (taken s b) ∙ (l.seats s b).slot) (key_other (ticket_at t s) (taken s b) ∙ (l.seats s b).holds))
+      seat_from (seated (with_key t i (Some k)) n i (Some k)) s (ticket_at t s) (l.seats s b).key (ticket_other s b) (longer _ (l.seats s b).cell) (slot_other (ticket_at t s) (taken s b) ∙ (l.seats s b).slot) (key_other (ticket_at t s) (taken s b) ∙ (l.seats s b).holds) (same_key s b ∙ (l.seats s b).rank))
       (cases_eq s n)
 
-  pub insert_linked : Linked (seated (with_key t i (Some k)) n i) (n + 1)
+  pub insert_linked : Linked (seated (with_key t i (Some k)) n i (Some k)) (n + 1)
   insert_linked = record {
     room = omega (arith, longer n hn);
     seats = seat;
     within = λ j v h. ⊎_elim
-        (λ e. subst (λ z. z < n + 1) (sym (ap (slot_of (seated (with_key t i (Some k)) n i)) e ∙ slot_here)) (omega arith))
+        (λ e. subst (λ z. z < n + 1) (sym (ap (slot_of (seated (with_key t i (Some k)) n i (Some k))) e ∙ slot_here)) (omega arith))
         (λ e. subst (λ z. z < n + 1) (sym (slot_other j e)) (omega (arith, l.within j v (sym (key_other j e) ∙ h))))
         (cases_eq j i);
     there = λ j v h. ⊎_elim
-        (λ e. ap (ticket_at (seated (with_key t i (Some k)) n i)) (ap (slot_of (seated (with_key t i (Some k)) n i)) e ∙ slot_here) ∙ ticket_here ∙ sym e)
+        (λ e. ap (ticket_at (seated (with_key t i (Some k)) n i (Some k))) (ap (slot_of (seated (with_key t i (Some k)) n i (Some k))) e ∙ slot_here) ∙ ticket_here ∙ sym e)
         (λ e. let f : key_of t j ≡ Some v = sym (key_other j e) ∙ h in
-        ap (ticket_at (seated (with_key t i (Some k)) n i)) (slot_other j e) ∙ ticket_other (slot_of t j) (l.within j v f) ∙ l.there j v f)
+        ap (ticket_at (seated (with_key t i (Some k)) n i (Some k))) (slot_other j e) ∙ ticket_other (slot_of t j) (l.within j v f) ∙ l.there j v f)
         (cases_eq j i);
   }
 
-  same_key : (s : ℕ) → s < n → key_at (seated (with_key t i (Some k)) n i) s ≡ key_at t s
-  unfolding key_at
-  same_key s h = ap (key_of (seated (with_key t i (Some k)) n i)) (ticket_other s h) ∙ key_other (ticket_at t s) (taken s h)
-
-  pub insert_upward : Ordered before (key_at t) n → Upward before (key_at (seated (with_key t i (Some k)) n i)) (n + 1) n
+  pub insert_upward : Ordered before (key_at t) n → Upward before (key_at (seated (with_key t i (Some k)) n i (Some k))) (n + 1) n
   insert_upward o = record {
     pairs = λ c p h e. let b : c < n = omega arith in later_as before (key_at t c) _ (key_at t (parent c)) _ (same_key c b) (same_key (parent c) (omega arith)) (o c p b);
     bridged = λ c p h e q. absurd (omega arith);
@@ -77,10 +80,10 @@ module _ {K : Type 0} (before : K → K → Bool) (t : Columns K) (even : Even t
 -- The ticket i loses its key; the ticket in the last slot takes its slot.
 module _ {K : Type 0} (before : K → K → Bool) (t : Columns K) (even : Even t) (n i : ℕ) (k : K) (l : Linked t n) (hn : 0 < n) (held : key_of t i ≡ Some k) where
   abbrev after : Columns K
-  after = seated (with_key t i None) (slot_of t i) (ticket_at t (n - 1))
+  after = seated (with_key t i None) (slot_of t i) (ticket_at t (n - 1)) (key_at t (n - 1))
 
   unkeyed_even : Even (with_key t i None)
-  unkeyed_even = record { slot = even.slot ∙ sym (length-set t.key i None); ticket = even.ticket ∙ sym (length-set t.key i None) }
+  unkeyed_even = record { slot = even.slot ∙ sym (length-set t.key i None); ticket = even.ticket ∙ sym (length-set t.key i None); rank = even.rank ∙ sym (length-set t.key i None) }
 
   hp : slot_of t i < n
   hp = l.within i k held
@@ -101,16 +104,23 @@ module _ {K : Type 0} (before : K → K → Bool) (t : Columns K) (even : Even t
   room_for m h = omega (arith, length-set t.key i None)
 
   kept_ticket : (s : ℕ) → s ≢ slot_of t i → ticket_at after s ≡ ticket_at t s
-  kept_ticket s h = seated_ticket_other (with_key t i None) unkeyed_even (slot_of t i) (ticket_at t (n - 1)) s h
+  kept_ticket s h = seated_ticket_other (with_key t i None) unkeyed_even (slot_of t i) (ticket_at t (n - 1)) (key_at t (n - 1)) s h
 
   kept_slot : (j : ℕ) → j ≢ ticket_at t (n - 1) → slot_of after j ≡ slot_of t j
-  kept_slot j h = seated_slot_other (with_key t i None) unkeyed_even (slot_of t i) (ticket_at t (n - 1)) j h
+  kept_slot j h = seated_slot_other (with_key t i None) unkeyed_even (slot_of t i) (ticket_at t (n - 1)) (key_at t (n - 1)) j h
 
   new_ticket : ticket_at after (slot_of t i) ≡ ticket_at t (n - 1)
-  new_ticket = seated_ticket (with_key t i None) unkeyed_even (slot_of t i) (ticket_at t (n - 1)) (room_for _ (omega (arith, l.room, hp)))
+  new_ticket = seated_ticket (with_key t i None) unkeyed_even (slot_of t i) (ticket_at t (n - 1)) (key_at t (n - 1)) (room_for _ (omega (arith, l.room, hp)))
 
   new_slot : slot_of after (ticket_at t (n - 1)) ≡ slot_of t i
-  new_slot = seated_slot (with_key t i None) unkeyed_even (slot_of t i) (ticket_at t (n - 1)) (room_for _ (l.seats (n - 1) hl).cell)
+  new_slot = seated_slot (with_key t i None) unkeyed_even (slot_of t i) (ticket_at t (n - 1)) (key_at t (n - 1)) (room_for _ (l.seats (n - 1) hl).cell)
+
+  new_rank : key_at after (slot_of t i) ≡ key_at t (n - 1)
+  new_rank = seated_key (with_key t i None) unkeyed_even (slot_of t i) (ticket_at t (n - 1)) (key_at t (n - 1)) (room_for _ (omega (arith, l.room, hp)))
+
+  kept_at : (s : ℕ) → s ≢ slot_of t i → key_at after s ≡ key_at t s
+  unfolding key_at
+  kept_at s h = seated_key_other (with_key t i None) unkeyed_even (slot_of t i) (ticket_at t (n - 1)) (key_at t (n - 1)) s h
 
   -- a ticket in another slot is another ticket
   other_ticket : (s z : ℕ) (h : s < n) (j : z < n) → s ≢ z → ticket_at t s ≢ ticket_at t z
@@ -125,11 +135,11 @@ module _ {K : Type 0} (before : K → K → Bool) (t : Columns K) (even : Even t
       (λ e. let ne : n - 1 ≢ slot_of t i = λ z. omega arith in
       subst (λ z. Seat after z) (sym e)
       (seat_from after (slot_of t i) (ticket_at t (n - 1)) (l.seats (n - 1) hl).key new_ticket (room_for _ (l.seats (n - 1) hl).cell) new_slot
-      (kept_key (ticket_at t (n - 1)) (not_i (n - 1) hl ne) ∙ (l.seats (n - 1) hl).holds)))
+      (kept_key (ticket_at t (n - 1)) (not_i (n - 1) hl ne) ∙ (l.seats (n - 1) hl).holds) (new_rank ∙ (l.seats (n - 1) hl).rank)))
       (λ e. let b : s < n = omega arith in
       seat_from after s (ticket_at t s) (l.seats s b).key (kept_ticket s e) (room_for _ (l.seats s b).cell)
       (kept_slot (ticket_at t s) (other_ticket s (n - 1) b hl (λ z. omega arith)) ∙ (l.seats s b).slot)
-      (kept_key (ticket_at t s) (not_i s b e) ∙ (l.seats s b).holds))
+      (kept_key (ticket_at t s) (not_i s b e) ∙ (l.seats s b).holds) (kept_at s e ∙ (l.seats s b).rank))
       (cases_eq s (slot_of t i))
 
   module _ (j : ℕ) (v : K) (h : key_of after j ≡ Some v) where
@@ -168,30 +178,23 @@ module _ {K : Type 0} (before : K → K → Bool) (t : Columns K) (even : Even t
   pub remove_linked : Linked after (n - 1)
   remove_linked = record { room = omega (arith, l.room, length-set t.key i None); seats = seat_after; within = within_after; there = there_after }
 
-  kept_at : (s : ℕ) → s < n → s ≢ slot_of t i → key_at after s ≡ key_at t s
-  unfolding key_at
-  kept_at s h ne = ap (key_of after) (kept_ticket s ne) ∙ kept_key (ticket_at t s) (not_i s h ne)
-
-  -- the ticket of the last slot holds a key still, where that is not the slot that becomes free
-  pub last_holds : slot_of t i < n - 1 → key_at (with_key t i None) (n - 1) ≡ Some (l.seats (n - 1) hl).key
-  unfolding key_at
-  last_holds h = kept_key (ticket_at t (n - 1)) (not_i (n - 1) hl (λ z. omega arith)) ∙ (l.seats (n - 1) hl).holds
-
-  -- where it is, the ticket stands there already
+  -- where the last slot becomes free, its ticket stands there already
   pub last_stands : n - 1 ≤ slot_of t i → with_key t i None ≡ after
+  unfolding key_at
   last_stands h =
       let e : slot_of t i ≡ n - 1 = omega (arith, hp) in
       let f : ticket_at t (n - 1) ≡ i = ap (ticket_at t) (sym e) ∙ l.there i k held in
       columns_from refl
       (sym (ap (λ j. set t.slot j (slot_of t i)) f ∙ set-get_or t.slot i 0))
       (sym (ap (λ s. set t.ticket (slot_of t i) (ticket_at t s)) (sym e) ∙ set-get_or t.ticket (slot_of t i) 0))
+      (sym (ap (λ s. set t.rank (slot_of t i) (key_at t s)) (sym e) ∙ set-get_or t.rank (slot_of t i) None))
 
   pub remove_ordered : n - 1 ≤ slot_of t i → Ordered before (key_at t) n → Ordered before (key_at after) (n - 1)
-  remove_ordered h o c p b = later_as before (key_at t c) _ (key_at t (parent c)) _ (kept_at c (omega arith) (λ z. omega arith)) (kept_at (parent c) (omega arith) (λ z. omega arith)) (o c p (omega arith))
+  remove_ordered h o c p b = later_as before (key_at t c) _ (key_at t (parent c)) _ (kept_at c (λ z. omega arith)) (kept_at (parent c) (λ z. omega arith)) (o c p (omega arith))
 
   pub remove_loose : Total before → slot_of t i < n - 1 → Ordered before (key_at t) n → Loose before (key_at after) (n - 1) (slot_of t i)
   remove_loose total h o = record {
-    pairs = λ c p b e f. later_as before (key_at t c) _ (key_at t (parent c)) _ (kept_at c (omega arith) e) (kept_at (parent c) (omega arith) f) (o c p (omega arith));
-    bridged = λ c p b e q. later_as before (key_at t c) _ (key_at t (parent (slot_of t i))) _ (kept_at c (omega arith) (λ z. omega arith)) (kept_at (parent (slot_of t i)) (omega arith) (λ z. omega arith))
+    pairs = λ c p b e f. later_as before (key_at t c) _ (key_at t (parent c)) _ (kept_at c e) (kept_at (parent c) f) (o c p (omega arith));
+    bridged = λ c p b e q. later_as before (key_at t c) _ (key_at t (parent (slot_of t i))) _ (kept_at c (λ z. omega arith)) (kept_at (parent (slot_of t i)) (λ z. omega arith))
         (sooner_carries before total (key_at t (parent (slot_of t i))) (key_at t (slot_of t i)) (key_at t c) (o (slot_of t i) q hp) (subst (λ z. sooner before (key_at t c) (key_at t z) ≡ false) e (o c p (omega arith))));
   }

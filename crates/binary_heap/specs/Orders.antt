@@ -1,7 +1,7 @@
 -- The order of a binary heap, on the keys of its slots: the slot s has the children 2s + 1 and 2s + 2.
-use Rattle.std.specs.Prelude.{◌≡◌, ℕ, ◌-◌, ◌/◌, ◌<◌, Bool, true, false, Some, None, Option, ◌≢◌, length}
+use Rattle.std.specs.Prelude.{◌≡◌, ℕ, ◌-◌, ◌/◌, ◌<◌, Bool, true, false, Some, None, Option, ◌≢◌}
 use Rattle.event_queue.specs.Orders.{sooner}
-use Rattle.binary_heap.specs.Slots.{Columns, ticket_at, key_at}
+use Rattle.binary_heap.specs.Slots.{Columns, key_at, Reads}
 use Rattle.binary_heap.specs.declared.slots.Entry.{Entry}
 
 abbrev pub parent : ℕ → ℕ
@@ -39,21 +39,12 @@ module _ {K : Type 0} (before : K → K → Bool) (at : ℕ → Option K) (n : �
     pub first : (c : ℕ) → 0 < c → c < n → parent c ≡ s → sooner before (at c) (at m) ≡ false
 
 module _ {K : Type 0} (before : K → K → Bool) (t : Columns K) where
-  -- the ticket in the parent of the slot s, which has a cell and a later key than k; none where s is the top or has no later parent
-  abbrev pub LaterParent : ℕ → K → Option ℕ → Type 0
-  LaterParent s k (Some x) = (0 < s) × (x ≡ ticket_at t (parent s)) × (sooner before (Some k) (key_at t (parent s)) ≡ true) × (x < length t.key)
-  LaterParent s k None = (above : K) → 0 < s → key_at t (parent s) ≡ Some above → before k above ≡ false
+  -- what stands in the parent of the slot s, where its key is later than k; none where s is the top or has no later parent
+  abbrev pub LaterParent : ℕ → K → Option (Entry K) → Type 0
+  LaterParent s k (Some e) = (0 < s) × Reads t (parent s) e × (sooner before (Some k) (key_at t (parent s)) ≡ true)
+  LaterParent s k None = 0 < s → sooner before (Some k) (key_at t (parent s)) ≡ false
 
-  -- the slots below n other than s have tickets that hold keys
-  abbrev pub Filled : ℕ → ℕ → Type 0
-  Filled n s = (c : ℕ) → c < n → (c ≢ s) → (key_at t c ≢ None)
-
-  -- a first child of the slot s among n, as it was read, with a ticket that has a cell; none only where not all slots are filled
-  abbrev pub FirstKeyed : ℕ → ℕ → Option (Entry K) → Type 0
-  FirstKeyed n s (Some m) = FirstChild before (key_at t) n s m.slot × (m.ticket ≡ ticket_at t m.slot) × (key_at t m.slot ≡ Some m.key) × (m.ticket < length t.key)
-  FirstKeyed n s None = Filled n s → ⊥
-
-  -- one that comes sooner than k; none where no child of s does
-  abbrev pub SoonerChild : ℕ → ℕ → K → Option (Entry K) → Type 0
-  SoonerChild n s k (Some m) = FirstChild before (key_at t) n s m.slot × (m.ticket ≡ ticket_at t m.slot) × (sooner before (key_at t m.slot) (Some k) ≡ true) × (m.ticket < length t.key)
-  SoonerChild n s k None = Filled n s → (c : ℕ) → 0 < c → c < n → parent c ≡ s → sooner before (key_at t c) (Some k) ≡ false
+  -- a first child of the slot s among n, which comes sooner than k; none where no child of s does
+  abbrev pub SoonerChild : ℕ → ℕ → K → Option ℕ → Type 0
+  SoonerChild n s k (Some m) = FirstChild before (key_at t) n s m × (sooner before (key_at t m) (Some k) ≡ true)
+  SoonerChild n s k None = (c : ℕ) → 0 < c → c < n → parent c ≡ s → sooner before (key_at t c) (Some k) ≡ false

@@ -1,7 +1,5 @@
-ghost use Rattle.std.specs.Prelude.{◌≡◌, ℕ, min, length, drop, None};
-ghost use Rattle.event_queue.specs.Queues.{Empty};
-ghost use Rattle.binary_heap.specs.Slots.{columns, key_of};
-ghost use Rattle.binary_heap.specs.Meanings.{heap_meaning};
+ghost use Rattle.std.specs.Prelude.{◌≤◌, min, length, take};
+ghost use Rattle.binary_heap.specs.Slots.{columns, Within};
 
 use crate::cell::Cell;
 use crate::tickets::{first, insert_front, remove_front};
@@ -12,15 +10,23 @@ use event_queue::refusal::Refusal;
 
 // An event queue as a binary heap with an index by ticket, in cells that the caller lends: the first 64,
 // or all if they are fewer. The memory is lent and fixed, so the size is counted beside it.
-// That it is sound is a premise of contracts and no ghost field: as a field it would make every definition
-// that names the heap take the key kind along, and the interface asks it of any queue all the same.
+// What a heap that was set up here keeps whatever its calls do: there is room for its size, and the tickets in
+// its slots have cells, so that a sift need not ask. That it is sound is a premise of contracts and no ghost field:
+// as a field it would make every definition that names the heap take the key kind along, and the interface asks it
+// of any queue all the same.
 #[derive(Drop)]
-pub struct BinaryHeap<'a, K: Key> {
+pub struct BinaryHeap<'a, K> {
     cells: &'a mut [Cell<K>],
     size: usize,
+    ghost few: { size ≤ min (length cells.now) 64 },
+    ghost within: { Within (columns (take 64 cells.now)) size },
 }
 
 impl<'a, K: Key> BinaryHeap<'a, K> {
+    ghost use Rattle.std.specs.Prelude.{◌≡◌, drop};
+    ghost use Rattle.event_queue.specs.Queues.{Empty};
+    ghost use Rattle.binary_heap.specs.Meanings.{heap_meaning};
+
     // An empty queue in the cells, whatever they hold. It is the one call that goes over all cells.
     pub fn new(cells: &'a mut [Cell<K>]) -> BinaryHeap<'a, K>
         ensures empty { Empty (heap_meaning K.Key.before) result }
@@ -35,6 +41,8 @@ impl<'a, K: Key> BinaryHeap<'a, K> {
 
 // The cells are named before each call: a slice in a field is not lent again as it stands.
 impl<'a, K: Key> Queue for BinaryHeap<'a, K> {
+    ghost use Rattle.binary_heap.specs.Meanings.{heap_meaning};
+
     type Key = K;
 
     ghost means = { heap_meaning K.Key.before };

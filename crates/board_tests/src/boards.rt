@@ -15,6 +15,11 @@ pub const CELLS: [Cell<Stamp>; 64] = [Cell {
     key: None,
     slot: 0,
     ticket: 0,
+    rank: Stamp {
+        seconds: 0,
+        numerator: 0,
+        denominator_less_one: 0,
+    },
 }; 64];
 
 // Cells for a pairing heap.

@@ -42,6 +42,11 @@ fn replay_onto(
         key: None,
         slot: 0,
         ticket: 0,
+        rank: Stamp {
+            seconds: 0,
+            numerator: 0,
+            denominator_less_one: 0,
+        },
     }; 64];
     let queue: BinaryHeap<Stamp> = BinaryHeap::new(&mut cells);
     let mut board = Board::new(SortedList::new(rt.alloc())?, queue);

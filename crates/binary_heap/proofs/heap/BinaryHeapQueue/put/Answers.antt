@@ -1,11 +1,19 @@
-use Rattle.std.proofs.Common.{◌<◌, min, [], length, is_some, Some, sym, ap, ◌∙◌, arith}
+use Rattle.std.proofs.Common.{◌<◌, min, [], length, is_some, Some, sym, ap, ◌∙◌, subst, arith, rules}
+use Rattle.event_queue.specs.Queues.{Put}
 use Rattle.event_queue.specs.declared.refusal.Refusal.TheVariants.{NoSuchTicket}
 use Rattle.event_queue.proofs.Fronts.{length_64}
 use Rattle.event_queue.proofs.Laws.{below_accepted, put_accepted}
 use Rattle.event_queue.proofs.Options.{not_some}
 use Rattle.binary_heap.specs.Meanings.{heap_meaning}
-use Rattle.binary_heap.proofs.Methods.{only_64}
+use Rattle.binary_heap.proofs.Methods.{only_64, same_heap}
 use Rattle.binary_heap.proofs.heap.BinaryHeapQueue.put.Goals as goal
+
+pub returns-in_err-held-clause-after : goal.returns-in_err-held-clause-after
+returns-in_err-held-clause-after g c =
+    subst (λ r. Put (heap_meaning g.K.Key.before) c.args.self.now r c.args.ticket c.args.key c.from_residual.result) (sym (same_heap c.args.self.now _ _)) (search rules)
+
+pub returns-then-is_some-clause-after : goal.returns-then-is_some-clause-after
+returns-then-is_some-clause-after g c = (same_heap c.args.self.now _ _, search rules)
 
 pub returns-clause-after : goal.returns-clause-after
 returns-clause-after g c s =
