@@ -1,5 +1,6 @@
 -- From the columns to the heap: what a change of one ticket does, and which key comes first.
-use Rattle.std.proofs.Common.{◌≡◌, ℕ, ◌+◌, ◌-◌, ◌<◌, ◌≤◌, Bool, false, List, length, is_some, Some, None, Option, sym, refl, ap, ◌∙◌, subst, arith}
+use Rattle.std.proofs.Common.{◌≡◌, ℕ, ◌+◌, ◌-◌, ◌<◌, ◌≤◌, Bool, false, ◌≢◌, List, length, set, is_some, Some, None, Option, slice_index_or, sym, refl, ap, ◌∙◌, subst, arith}
+use Rattle.std.proofs.lemmas.List.{get_or-set_same, get_or-set_other}
 use Rattle.event_queue.specs.Orders.{sooner}
 use Rattle.event_queue.specs.Queues.{count_below}
 use Rattle.event_queue.proofs.Orders.{Total}
@@ -12,7 +13,7 @@ use Rattle.binary_heap.specs.Sound.{Sound, Keyed}
 use Rattle.binary_heap.proofs.Columns.{key_length}
 use Rattle.binary_heap.proofs.Sifting.{top_first}
 use Rattle.binary_heap.proofs.Sifts.{cells_even}
-use Rattle.binary_heap.proofs.Seating.{insert_linked, insert_upward, remove_linked, remove_loose, remove_ordered, last_stands}
+use Rattle.binary_heap.proofs.Seating.{insert_linked, insert_upward, remove_linked, remove_loose, remove_ordered, last_stands, change_linked, change_loose}
 use Rattle.event_queue.proofs.Options.{some_none}
 use Rattle.event_queue.proofs.Keyed.{held_cell, keyed_length, keyed_there, keyed_others}
 
@@ -104,6 +105,47 @@ module _ {K : Type 0} (before : K → K → Bool) (cells cells' : List (Cell K))
       removed before cells cells' n i k S held
       (remove_last before cells cells' n i k S held last
       (e ∙ eu ∙ last_stands before (columns cells) (cells_even cells) n i k S.linked (some_held before cells cells' n i k S held) held last))
+
+-- The ticket i, which holds the key old, gets the key k.
+module _ {K : Type 0} (before : K → K → Bool) (cells cells' : List (Cell K)) (n i : ℕ) (old k : K) (S : Sound before cells n) (held : key_of (columns cells) i ≡ Some old) where
+  -- which of them hold a key but for i
+  abbrev others_holding : ℕ → Bool
+  others_holding j = is_some (slice_index_or (set (columns cells).key i None) j None)
+
+  -- as many hold a key as before
+  counted_same : (columns cells').key ≡ set (columns cells).key i (Some k) → count_below (holding cells') (length cells) ≡ count_below (holding cells) (length cells)
+  counted_same e =
+      let hi = held_cell cell_key cells i old held in
+      let none = ap is_some (get_or-set_same (columns cells).key i None None (omega (arith, hi, key_length cells))) in
+      let other = λ (j : ℕ) (h : j ≢ i). sym (ap is_some (get_or-set_other (columns cells).key i j None None h)) in
+      let new = count_more others_holding (holding cells') (length cells) i hi none (ap is_some (keyed_there cell_key cells cells' i (Some k) e hi)) (λ j h. ap is_some (keyed_others cell_key cells cells' i (Some k) e j h) ∙ other j h) in
+      let before = count_more others_holding (holding cells) (length cells) i hi none (ap is_some held) other in
+      omega (arith, new, before)
+
+  keyed_anew : Settled before (seated (with_key (columns cells) i (Some k)) (slot_of (columns cells) i) i (Some k)) (columns cells') n → Keyed before cells cells' n i (Some k)
+  keyed_anew z = record {
+    sound = record {
+      linked = z.linked;
+      ordered = z.ordered;
+      counted = omega (arith, S.counted, counted_same z.keys, ap (count_below (holding cells')) (keyed_length cell_key cells cells' i (Some k) z.keys));
+    };
+    keys = z.keys;
+  }
+
+  -- as the code makes it: u is what stands after the key is written, and s the slot that was read
+  module _ (s : ℕ) (es : s ≡ slot_of (columns cells) i) (u : Columns K) (eu : u ≡ with_key (columns cells) i (Some k)) where
+    anew_as : seated u s i (Some k) ≡ seated (with_key (columns cells) i (Some k)) (slot_of (columns cells) i) i (Some k)
+    anew_as = rw (eu, es)
+
+    pub change_sifted : Total before → (Linked (seated u s i (Some k)) n → Loose before (key_at (seated u s i (Some k))) n s → Settled before (seated u s i (Some k)) (columns cells') n) → Keyed before cells cells' n i (Some k)
+    change_sifted o sift =
+        let t = columns cells in
+        keyed_anew (subst (λ z. Settled before z (columns cells') n) anew_as
+        (sift (subst (λ z. Linked z n) (sym anew_as) (change_linked before t (cells_even cells) n i old k S.linked held))
+        (subst (λ z. Loose before (key_at z) n s) (sym anew_as) (subst (λ z. Loose before (key_at (seated (with_key t i (Some k)) (slot_of t i) i (Some k))) n z) (sym es) (change_loose before t (cells_even cells) n i old k S.linked held o S.ordered)))))
+
+    pub change_within : s < n
+    change_within = subst (λ z. z < n) (sym es) (S.linked.within i old held)
 
 -- what stands in the first slot comes first
 module _ {K : Type 0} (before : K → K → Bool) (cells : List (Cell K)) (n : ℕ) (S : Sound before cells n) where

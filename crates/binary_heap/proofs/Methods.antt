@@ -1,9 +1,12 @@
 -- From the first 64 cells to the queue.
-use Rattle.std.proofs.Common.{◌≡◌, ℕ, ◌<◌, ◌≤◌, min, Bool, List, [], ◌∷◌, length, take, Option, sym, refl, ap, ◌∙◌, ⊎_elim, arith}
+use Rattle.std.proofs.Common.{◌≡◌, ℕ, ◌<◌, ◌≤◌, min, Bool, true, List, [], ◌∷◌, length, take, is_some, Some, None, Ok, Err, Option, Result, sym, refl, ap, ◌∙◌, ⊎_elim, arith}
 use Rattle.std.proofs.Props.{props}
 use Rattle.std.proofs.lemmas.Bool.{cases_lt}
 use Rattle.std.proofs.lemmas.List.{take_all}
-use Rattle.event_queue.specs.Queues.{Only}
+use Rattle.event_queue.specs.Queues.{Meaning, Only, Put, Rekeyed, ticket_refusal, put_refusal}
+use Rattle.event_queue.specs.declared.refusal.Refusal.{Refusal}
+use Rattle.event_queue.proofs.Laws.{put_accepted}
+use Rattle.event_queue.proofs.Options.{some_none}
 use Rattle.event_queue.proofs.Keyed.{capacity_64, there_64, keyed_others}
 use Rattle.binary_heap.specs.declared.cell.Cell.{Cell}
 use Rattle.binary_heap.specs.declared.heap.BinaryHeap.{BinaryHeap}
@@ -49,3 +52,18 @@ same_heap {K} q few within =
     let f : few ≡ q.few = few_prop q few q.few in
     let w : within ≡ q.within = within_prop q within q.within in
     rw (f, w)
+
+-- what is some is the key that it is
+pub some_key : {K : Type 0} (o : Option K) → is_some o ≡ true → (k : K) × (o ≡ Some k)
+some_key (Some k) e = (k, refl)
+some_key None e = cc
+
+-- a put into a ticket number that holds no key gives it the key, as a rekey is to
+pub put_rekeys : {Q K : Type 0} (m : Meaning Q K) (q q' : Q) (n : ℕ) (key : K) (r : Result Unit Refusal) → n < m.capacity q → ticket_refusal m q n ≡ None → m.held q n ≡ None → Put m q q' n key r → Rekeyed m q q' n key r
+put_rekeys m q q' n key (Ok u) h a free p = λ s. (a, (p s).1)
+put_rekeys m q q' n key (Err e) h a free p = (
+  p.0,
+  λ s. let refused : put_refusal m q n ≡ Some e = p.1 s in
+      let accepted : put_refusal m q n ≡ None = put_accepted m q n h free in
+      absurd (some_none _ e refused accepted),
+)

@@ -1,4 +1,4 @@
--- A ticket that gets a key, and one that loses it: the columns before the sift, and the heap after it.
+-- A ticket that gets a key, one that loses it, and one that gets another: the columns before the sift, and the heap after it.
 use Rattle.std.proofs.Common.{◌≡◌, ℕ, ◌+◌, ◌-◌, ◌<◌, ◌≤◌, Bool, false, ◌≢◌, length, set, Some, None, sym, refl, ap, ◌∙◌, subst, ⊎_elim, arith}
 use Rattle.std.proofs.lemmas.Bool.{cases_eq}
 use Rattle.std.proofs.lemmas.List.{get_or-set_same, get_or-set_other, length-set, set-get_or}
@@ -197,4 +197,83 @@ module _ {K : Type 0} (before : K → K → Bool) (t : Columns K) (even : Even t
     pairs = λ c p b e f. later_as before (key_at t c) _ (key_at t (parent c)) _ (kept_at c e) (kept_at (parent c) f) (o c p (omega arith));
     bridged = λ c p b e q. later_as before (key_at t c) _ (key_at t (parent (slot_of t i))) _ (kept_at c (λ z. omega arith)) (kept_at (parent (slot_of t i)) (λ z. omega arith))
         (sooner_carries before total (key_at t (parent (slot_of t i))) (key_at t (slot_of t i)) (key_at t c) (o (slot_of t i) q hp) (subst (λ z. sooner before (key_at t c) (key_at t z) ≡ false) e (o c p (omega arith))));
+  }
+
+-- The ticket i, which holds a key, gets another one, in the slot where it stands.
+module _ {K : Type 0} (before : K → K → Bool) (t : Columns K) (even : Even t) (n i : ℕ) (old k : K) (l : Linked t n) (held : key_of t i ≡ Some old) where
+  abbrev changed : Columns K
+  changed = seated (with_key t i (Some k)) (slot_of t i) i (Some k)
+
+  changed_even : Even (with_key t i (Some k))
+  changed_even = record { slot = even.slot ∙ sym (length-set t.key i (Some k)); ticket = even.ticket ∙ sym (length-set t.key i (Some k)); rank = even.rank ∙ sym (length-set t.key i (Some k)) }
+
+  own_slot : slot_of t i < n
+  own_slot = l.within i old held
+
+  own_cell : i < length t.key
+  own_cell = subst (λ z. z < length t.key) (l.there i old held) (l.seats (slot_of t i) own_slot).cell
+
+  as_long : (m : ℕ) → m < length t.key → m < length (set t.key i (Some k))
+  as_long m h = omega (arith, length-set t.key i (Some k))
+
+  -- no ticket moves
+  same_tickets : (s : ℕ) → ticket_at changed s ≡ ticket_at t s
+  same_tickets s =
+      ⊎_elim
+      (λ e. ap (ticket_at changed) e ∙ seated_ticket (with_key t i (Some k)) changed_even (slot_of t i) i (Some k) (as_long _ (omega (arith, l.room, own_slot))) ∙ sym (l.there i old held) ∙ sym (ap (ticket_at t) e))
+      (λ e. seated_ticket_other (with_key t i (Some k)) changed_even (slot_of t i) i (Some k) s e)
+      (cases_eq s (slot_of t i))
+
+  same_slots : (j : ℕ) → slot_of changed j ≡ slot_of t j
+  same_slots j =
+      ⊎_elim
+      (λ e. ap (slot_of changed) e ∙ seated_slot (with_key t i (Some k)) changed_even (slot_of t i) i (Some k) (as_long _ own_cell) ∙ sym (ap (slot_of t) e))
+      (λ e. seated_slot_other (with_key t i (Some k)) changed_even (slot_of t i) i (Some k) j e)
+      (cases_eq j i)
+
+  changed_key : key_of changed i ≡ Some k
+  changed_key = get_or-set_same t.key i (Some k) None own_cell
+
+  unchanged_key : (j : ℕ) → j ≢ i → key_of changed j ≡ key_of t j
+  unchanged_key j h = get_or-set_other t.key i j (Some k) None h
+
+  changed_rank : key_at changed (slot_of t i) ≡ Some k
+  changed_rank = seated_key (with_key t i (Some k)) changed_even (slot_of t i) i (Some k) (as_long _ (omega (arith, l.room, own_slot)))
+
+  unchanged_rank : (s : ℕ) → s ≢ slot_of t i → key_at changed s ≡ key_at t s
+  unfolding key_at
+  unchanged_rank s h = seated_key_other (with_key t i (Some k)) changed_even (slot_of t i) i (Some k) s h
+
+  another : (s : ℕ) → s < n → s ≢ slot_of t i → ticket_at t s ≢ i
+  another s h ne e = ne (sym (l.seats s h).slot ∙ ap (slot_of t) e)
+
+  seat_changed : (s : ℕ) → s < n → Seat changed s
+  seat_changed s h =
+      ⊎_elim
+      (λ e. subst (λ z. Seat changed z) (sym e) (seat_from changed (slot_of t i) i k (same_tickets (slot_of t i) ∙ l.there i old held) (as_long _ own_cell) (same_slots i) changed_key changed_rank))
+      (λ e. seat_from changed s (ticket_at t s) (l.seats s h).key (same_tickets s) (as_long _ (l.seats s h).cell) (same_slots (ticket_at t s) ∙ (l.seats s h).slot) (unchanged_key (ticket_at t s) (another s h e) ∙ (l.seats s h).holds) (unchanged_rank s e ∙ (l.seats s h).rank))
+      (cases_eq s (slot_of t i))
+
+  -- a ticket that holds a key held one before
+  module _ (P : ℕ → Type 0) (p : (j : ℕ) (v : K) → key_of t j ≡ Some v → P j) where
+    held_before : (j : ℕ) (v : K) → key_of changed j ≡ Some v → P j
+    held_before j v h =
+        ⊎_elim
+        (λ e. subst P (sym e) (p i old held))
+        (λ e. p j v (sym (unchanged_key j e) ∙ h))
+        (cases_eq j i)
+
+  pub change_linked : Linked changed n
+  change_linked = record {
+    room = omega (arith, l.room, length-set t.key i (Some k));
+    seats = seat_changed;
+    within = held_before (λ j. slot_of changed j < n) (λ j v h. subst (λ z. z < n) (sym (same_slots j)) (l.within j v h));
+    there = held_before (λ j. ticket_at changed (slot_of changed j) ≡ j) (λ j v h. same_tickets (slot_of changed j) ∙ ap (ticket_at t) (same_slots j) ∙ l.there j v h);
+  }
+
+  pub change_loose : Total before → Ordered before (key_at t) n → Loose before (key_at changed) n (slot_of t i)
+  change_loose total o = record {
+    pairs = λ c p b e f. later_as before (key_at t c) _ (key_at t (parent c)) _ (unchanged_rank c e) (unchanged_rank (parent c) f) (o c p b);
+    bridged = λ c p b e q. later_as before (key_at t c) _ (key_at t (parent (slot_of t i))) _ (unchanged_rank c (λ z. omega arith)) (unchanged_rank (parent (slot_of t i)) (λ z. omega arith))
+        (sooner_carries before total (key_at t (parent (slot_of t i))) (key_at t (slot_of t i)) (key_at t c) (o (slot_of t i) q own_slot) (subst (λ z. sooner before (key_at t c) (key_at t z) ≡ false) e (o c p b)));
   }

@@ -25,3 +25,7 @@ module _ {K : Type 0} (before : K → K → Bool) where
   -- a ticket that holds a key loses it
   abbrev pub Removes : List (Cell K) → List (Cell K) → ℕ → ℕ → ℕ → Type 0
   Removes cells cells' size size' ticket = (key : K) → Sound cells size → key_of (columns cells) ticket ≡ Some key → Keyed cells cells' size' ticket None
+
+  -- a ticket that holds a key gets another
+  abbrev pub Changes : List (Cell K) → List (Cell K) → ℕ → ℕ → K → Type 0
+  Changes cells cells' size ticket key = (old : K) → Sound cells size → key_of (columns cells) ticket ≡ Some old → Keyed cells cells' size ticket (Some key)

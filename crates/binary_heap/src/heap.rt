@@ -2,7 +2,7 @@ ghost use Rattle.std.specs.Prelude.{◌≤◌, min, length, take};
 ghost use Rattle.binary_heap.specs.Slots.{columns, Within};
 
 use crate::cell::Cell;
-use crate::tickets::{first, insert_front, remove_front};
+use crate::tickets::{change_front, first, insert_front, remove_front};
 use event_queue::cells::{capacity, clear_front, held};
 use event_queue::key::Key;
 use event_queue::queue::Queue;
@@ -78,6 +78,16 @@ impl<'a, K: Key> Queue for BinaryHeap<'a, K> {
         };
         self.size = remove_front(cells, self.size, ticket);
         Ok(Some(key))
+    }
+
+    // A ticket that holds a key stays in the heap, and moves from where it stands.
+    fn rekey(&mut self, ticket: usize, key: K) -> Result<(), Refusal> {
+        let cells = &mut *self.cells;
+        if held(cells, ticket)?.is_none() {
+            return self.put(ticket, key);
+        }
+        change_front(cells, self.size, ticket, key);
+        Ok(())
     }
 
     fn take(&mut self, limit: K) -> Option<(usize, K)> {

@@ -2,7 +2,7 @@ ghost use Rattle.std.specs.Prelude.{◌≡◌, ◌+◌, ◌-◌, ◌<◌, ◌≤
 ghost use Rattle.std.specs.Option.{IfSome};
 ghost use Rattle.event_queue.specs.Cells.{Earliest};
 ghost use Rattle.binary_heap.specs.Slots.{cell_key, columns, Within};
-ghost use Rattle.binary_heap.specs.Sound.{Sound, Inserts, Removes};
+ghost use Rattle.binary_heap.specs.Sound.{Sound, Inserts, Removes, Changes};
 
 use crate::cell::Cell;
 use crate::sift::{sift, sift_up};
@@ -46,6 +46,25 @@ fn remove<K: Key>(cells: &mut [Cell<K>], size: usize, ticket: usize)
     if slot < last {
         let moved = entry_at(cells, last);
         sift(cells, last, slot, moved.ticket, moved.key);
+    }
+}
+
+// Gives another key to a ticket that holds one, in a heap of `size` tickets: the ticket goes from where it stands to where
+// the key belongs.
+#[tactic(auto, using(crate::proofs::Columns::key_length))]
+fn change<K: Key>(cells: &mut [Cell<K>], size: usize, ticket: usize, key: K)
+    requires few { size ≤ 64 }
+    requires room { size ≤ length cells.old }
+    requires ticket { ticket < length cells.old }
+    requires number { ticket < 64 }
+    requires within { Within (columns cells.old) size }
+    ensures changes { Changes K.Key.before cells.old cells.new size ticket key }
+    ensures within { Within (columns cells.new) size }
+{
+    let slot = slot_of(cells, ticket);
+    set_key(cells, ticket, Some(key));
+    if slot < size {
+        sift(cells, size, slot, ticket as u32, key);
     }
 }
 
@@ -100,4 +119,18 @@ pub fn remove_front<K: Key>(cells: &mut [Cell<K>], size: usize, ticket: usize) -
     }
     remove(&mut cells[..capacity], size, ticket);
     size - 1
+}
+
+// The same as `change`, in the first 64 cells.
+pub fn change_front<K: Key>(cells: &mut [Cell<K>], size: usize, ticket: usize, key: K)
+    requires few { size ≤ min (length cells.old) 64 }
+    requires ticket { ticket < min (length cells.old) 64 }
+    requires within { Within (columns (take 64 cells.old)) size }
+    ensures changes { Changes K.Key.before (take 64 cells.old) (take 64 cells.new) size ticket key }
+    ensures few { size ≤ min (length cells.new) 64 }
+    ensures within { Within (columns (take 64 cells.new)) size }
+    ensures past { drop 64 cells.new ≡ drop 64 cells.old }
+{
+    let capacity = capacity(cells);
+    change(&mut cells[..capacity], size, ticket, key);
 }
