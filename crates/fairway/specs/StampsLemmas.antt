@@ -1,7 +1,6 @@
 -- The comparison of stamps: a total order, which agrees with the order of time.
 use Rattle.std.specs.Prelude.{◌≡◌, ℕ, ◌+◌, ◌*◌, ◌<◌, ◌≤◌, Bool, true, false, ◌&&◌, ◌||◌, ◌⊎◌, ◌≢◌, ◌==◌, nat_lt}
-use Rattle.std.specs.Ordering.{is_lt, ordering_then, nat_cmp}
-use Rattle.std.proofs.Common.{sym, ◌∙◌, subst, inl, inr, ⊎_elim, add-mul, mul_right_comm, mul-le-mul_right, le_of_mul-le-mul_right, mul-lt-mul_of_pos_right, arith}
+use Rattle.std.proofs.Common.{sym, subst, inl, inr, ⊎_elim, add-mul, mul_right_comm, mul-le-mul_right, le_of_mul-le-mul_right, mul-lt-mul_of_pos_right, arith}
 use Rattle.std.proofs.lemmas.Bool.Decides.{nat_tests}
 use Rattle.std.proofs.lemmas.Bool.{cases_order}
 use Rattle.fairway.specs.Times.{Proper, ◌≤ᵗ◌, ◌<ᵗ◌}
@@ -34,14 +33,6 @@ late_to x y h k = tests_to x.seconds y.seconds (x.numerator * den y) (y.numerato
 pub early_from : (x y : Stamp) → earlier x y ≡ true → (x.seconds < y.seconds) ⊎ ((x.seconds ≡ y.seconds) × (x.numerator * den y < y.numerator * den x))
 unfolding earlier
 early_from x y e = tests_yes x.seconds y.seconds (x.numerator * den y) (y.numerator * den x) e
-
--- the pairs of seconds and product compared, as the code does
-by_pairs : (x y : Stamp) → is_lt (ordering_then (nat_cmp x.seconds y.seconds) (nat_cmp (x.numerator * den y) (y.numerator * den x))) ≡ earlier x y
-unfolding earlier
-by_pairs x y = go x.seconds y.seconds (x.numerator * den y) (y.numerator * den x)
-  where
-    go : (a b c d : ℕ) → is_lt (ordering_then (nat_cmp a b) (nat_cmp c d)) ≡ (nat_lt a b || (a == b && nat_lt c d))
-    go a b c d = grind (arith, nat_tests)
 
 -- by whole seconds where they differ, and else by the products
 pub by_seconds : (x y : Stamp) → (x.seconds ≢ y.seconds) → nat_lt x.seconds y.seconds ≡ earlier x y
@@ -110,6 +101,3 @@ agrees a b pa pb = ((λ e. sooner a b pa e), (λ e h. let k = not_later b a pb e
 
 pub compared : (a b : Stamp) (r : Bool) → r ≡ earlier a b → Compared a b r
 compared a b r e = record { value = e; in_time = λ pa pb. subst (Decides (time_of a <ᵗ time_of b)) (sym e) (agrees a b pa pb) }
-
-pub compared_pairs : (a b : Stamp) (r : Bool) → r ≡ is_lt (ordering_then (nat_cmp a.seconds b.seconds) (nat_cmp (a.numerator * den b) (b.numerator * den a))) → Compared a b r
-compared_pairs a b r e = compared a b r (e ∙ by_pairs a b)
