@@ -3,7 +3,7 @@ use Rattle.std.proofs.Common.{◌≡◌, ℕ, zero, suc, ◌*◌, ◌/◌, ◌%�
 use Prim.Native.Nat.{◌∣◌}
 use native.Mathlib.Nat.{dvd_of_mul-dvd-mul_right, pos_of_dvd_of_pos, eq-one_of_dvd-one, mul-dvd-mul_right, div-mul_cancel}
 use Rattle.std.specs.Int.{IsGcd}
-use Rattle.std.proofs.lemmas.Nat.Gcd.{IsGcd-from_zero, IsGcd-from_mod, same_from_IsGcd}
+use Rattle.std.proofs.lemmas.Nat.Gcd.{IsGcd-from_zero, IsGcd-from_mod, IsGcd-swap, same_from_IsGcd}
 use Rattle.fairway.specs.Times.{Time, ratio, Proper, ◌=ᵗ◌}
 use Rattle.fairway.specs.Fractions.{gcd_in, gcd, CommonDivisor, Reduced}
 use Rattle.fairway.specs.InstantsLemmas.{same_fraction}
@@ -34,6 +34,9 @@ gcd_is a b = gcd_in_is b a b (omega arith)
 pub common_divisor : (a b g : ℕ) → IsGcd a b g → CommonDivisor a b g
 common_divisor a b g i =
     record { value = same_from_IsGcd a b g (gcd a b) i (gcd_is a b); divides_first = i.0; divides_second = i.1; greatest = i.2 }
+
+pub divisor_swapped : (a b g : ℕ) → CommonDivisor a b g → CommonDivisor b a g
+divisor_swapped a b g c = common_divisor b a g (IsGcd-swap a b g (c.divides_first, c.divides_second, c.greatest))
 
 left_pos : (q g d : ℕ) → q * g ≡ d → 0 < d → 0 < q
 left_pos zero g d e h = absurd (omega arith)

@@ -29,6 +29,9 @@ pub record Lowered (s n d n' d' : ℕ) : Type 0 where
 pub divisor_pos : (n d g : ℕ) → 0 < d → CommonDivisor n d g → 0 < g
 divisor_pos n d g h c = pos_of_dvd_of_pos c.divides_second h
 
+pub first_divisor_pos : (n d g : ℕ) → 0 < n → CommonDivisor n d g → 0 < g
+first_divisor_pos n d g h c = pos_of_dvd_of_pos c.divides_first h
+
 -- q and n' / d' have the value of q and n / d, which are g times them
 pub same_value : (q n' d' g n d : ℕ) → n' * g ≡ n → d' * g ≡ d → (q * d' + n') * d ≡ (q * d + n) * d'
 same_value q n' d' g n d en ed = rw (← en, ← ed) (go q n' d' g)

@@ -73,14 +73,15 @@ impl Pair {
 }
 
 // A quotient as whole seconds and a fraction in lowest terms.
-#[tactic(auto, using(crate::proofs::Instants::divisor_pos))]
+#[tactic(auto, using(crate::proofs::Instants::first_divisor_pos))]
 fn quotient(distance: u64, speed: u16) -> Stamp
     requires { 0 < speed }
     ensures { result ≡ lowest_stamp distance speed }
 {
     let divisor = u64::from(speed);
     let rest = (distance % divisor) as u16;
-    let common = greatest_common_divisor(rest, speed);
+    // the greater first: the other way round, Euclid's first step would only exchange the two
+    let common = greatest_common_divisor(speed, rest);
     Stamp {
         seconds: distance / divisor,
         numerator: rest / common,
