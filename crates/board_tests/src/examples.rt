@@ -1,7 +1,9 @@
-use crate::boards::{CELLS, NODES, blank_rows, list, same_rows, state_of, told, tournament};
 use binary_heap::heap::BinaryHeap;
 use board::board::Board;
 use board::call::{Call, Line, Outcome, Row};
+use board_fixtures::boards::{CELLS, NODES, blank_rows, list, tournament};
+use board_fixtures::calls::{Step, perform};
+use board_fixtures::told::{Numbers, same_rows, state_and_load, state_of, told};
 use event_queue::queue::Queue;
 use fairway::stamp::Stamp;
 use kinetic::structure::Structure;
@@ -10,22 +12,6 @@ use sorted_list::list::SortedList;
 use std::alloc::{AllocError, Global};
 use std::process::Abort;
 use std::test::Fail;
-
-// A call in one line of a table.
-#[derive(Clone, Copy)]
-pub enum ShortCall {
-    Open,
-    Enter(u16, i32, i16),
-    Leave(u16),
-    Steer(u16, i16),
-    Advance(u64, u16, u16),
-}
-
-// A call, and what is to come of it: the list's number of mends, or the number of the refusal.
-pub type Step = (ShortCall, Result<usize, u8>);
-
-// An instant's seconds, numerator and denominator.
-pub type Numbers = (u64, u16, u16);
 
 // A mend on the list: the instant, the rear vessel and the front vessel.
 pub type Passing = (Numbers, u16, u16);
@@ -41,26 +27,6 @@ pub struct Example {
     pub aboard: usize,
     pub foremost: Option<u16>,
     pub total: u64,
-}
-
-impl From<ShortCall> for Call {
-    fn from(short: ShortCall) -> Call {
-        match short {
-            ShortCall::Open => Call::Open,
-            ShortCall::Enter(number, position, speed) => Call::Enter {
-                number,
-                position,
-                speed,
-            },
-            ShortCall::Leave(number) => Call::Leave { number },
-            ShortCall::Steer(number, speed) => Call::Steer { number, speed },
-            ShortCall::Advance(seconds, numerator, denominator) => Call::Advance {
-                seconds,
-                numerator,
-                denominator,
-            },
-        }
-    }
 }
 
 // The row of a passing.
@@ -96,11 +62,10 @@ fn check_end<S: Structure + Drop, Q: Queue<Key = Stamp> + Drop>(
     example: &Example,
 ) {
     let name = example.name;
-    let clock = board.clock();
-    let numbers = (clock.seconds(), clock.numerator(), clock.denominator());
-    assert_eq!(rt; numbers, example.clock, "in {name}");
-    assert_eq!(rt; board.aboard(), example.aboard, "in {name}");
-    assert_eq!(rt; board.foremost(), example.foremost, "in {name}");
+    let state = state_of(board);
+    assert_eq!(rt; state.clock, example.clock, "in {name}");
+    assert_eq!(rt; state.aboard, example.aboard, "in {name}");
+    assert_eq!(rt; state.foremost, example.foremost, "in {name}");
 }
 
 // Does the calls of an example one by one on a board over any structure. A refused call changes nothing.
@@ -114,11 +79,11 @@ fn check_steps<S: Structure + Drop, Q: Queue<Key = Stamp> + Drop>(
     let mut rows = blank_rows(alloc, 2016)?;
     board.open();
     for step in example.steps {
-        let before = state_of(board);
-        let outcome = board.perform(Call::from(step.0), rows.as_mut_slice());
-        assert_eq!(rt; told(outcome).err(), step.1.err(), "in {name}");
-        let is_as_it_was = state_of(board) == before;
-        assert!(rt; is_as_it_was || told(outcome).is_ok(), "in {name}");
+        let before = state_and_load(board);
+        let answer = perform(board, step.0, rows.as_mut_slice());
+        assert_eq!(rt; answer.err(), step.1.err(), "in {name}");
+        let is_as_it_was = state_and_load(board) == before;
+        assert!(rt; is_as_it_was || answer.is_ok(), "in {name}");
     }
     check_end(rt, board, example);
     Ok(())

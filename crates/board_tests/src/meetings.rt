@@ -1,5 +1,5 @@
-use crate::examples::ShortCall::{Advance, Enter, Leave, Open, Steer};
 use crate::examples::{Example, check_example};
+use board_fixtures::calls::ShortCall::{Advance, Enter, Leave, Open, Steer};
 use std::test::Fail;
 
 const MEETINGS: [Example; 14] = [

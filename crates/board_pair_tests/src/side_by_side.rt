@@ -1,10 +1,9 @@
-use crate::boards::{
-    CELLS, NODES, blank_rows, list, same_rows, state_of, told, tournament, written,
-};
 use crate::draws::Draws;
 use binary_heap::heap::BinaryHeap;
 use board::board::Board;
 use board::call::Call;
+use board_fixtures::boards::{CELLS, NODES, blank_rows, list, tournament};
+use board_fixtures::told::{same_rows, state_and_load, state_of, told, written};
 use event_queue::queue::Queue;
 use fairway::instant::Instant;
 use fairway::order::{is_sorted, load, turned_pairs};
@@ -41,6 +40,22 @@ fn has_all<Q: Queue<Key = Stamp> + Drop, S: Structure>(
     courses.all(|course| other.course(course.number) == Some(*course))
 }
 
+// Whether the clock, how many are aboard, who, and the foremost are the same on both.
+fn is_told_alike<Q: Queue<Key = Stamp> + Drop, S: Structure + Drop, P: Queue<Key = Stamp> + Drop>(
+    one: &Board<SortedList, Q>,
+    other: &Board<S, P>,
+) -> bool {
+    let own = state_of(one);
+    let theirs = state_of(other);
+    (own.clock, own.aboard, own.foremost) == (theirs.clock, theirs.aboard, theirs.foremost)
+        && has_all(one, other.structure())
+}
+
+// Whether the order and the load of the list are those of its vessels.
+fn is_reckoned_so<Q: Queue<Key = Stamp> + Drop>(board: &Board<SortedList, Q>) -> bool {
+    is_sorted(board.order(), board.clock().stamp()) && load(board.order()) == board.load() as u128
+}
+
 // Does drawn calls on the list and on a board over another structure: the same are refused, and the clock, how many
 // are aboard, who, and the foremost are the same after each. On the list the order and the load are those of its
 // vessels, and an advance answers the pairs that it turns.
@@ -64,16 +79,8 @@ fn check_side_by_side<
         assert_eq!(rt; outcome.err(), answer.err(), "at {turn}: {call:?}");
         let is_as_turned = outcome.map_or(true, |mends| mends as u128 == turned);
         assert!(rt; is_as_turned, "at {turn}: {call:?}");
-        let own = state_of(&one);
-        assert_eq!(rt; other.clock(), own.clock, "at {turn}: {call:?}");
-        assert_eq!(rt; other.aboard(), own.aboard, "at {turn}: {call:?}");
-        assert_eq!(rt; other.foremost(), own.foremost, "at {turn}: {call:?}");
-        assert!(rt; has_all(&one, other.structure()), "at {turn}: {call:?}");
-        assert!(rt;
-            is_sorted(one.order(), own.clock.stamp()),
-            "at {turn}: {call:?}"
-        );
-        assert_eq!(rt; load(one.order()), own.load as u128, "at {turn}: {call:?}");
+        assert!(rt; is_told_alike(&one, &other), "at {turn}: {call:?}");
+        assert!(rt; is_reckoned_so(&one), "at {turn}: {call:?}");
     }
     Ok(())
 }
@@ -112,7 +119,8 @@ fn check_queues<Q: Queue<Key = Stamp> + Drop, P: Queue<Key = Stamp> + Drop>(
         let own = written(rows.as_slice(), outcome);
         let theirs = written(others.as_slice(), answer);
         assert!(rt; same_rows(own, theirs), "at {turn}: {call:?}");
-        assert_eq!(rt; state_of(&one), state_of(&other), "at {turn}: {call:?}");
+        let own = state_and_load(&one);
+        assert_eq!(rt; own, state_and_load(&other), "at {turn}: {call:?}");
     }
     Ok(())
 }

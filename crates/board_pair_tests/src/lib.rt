@@ -1,0 +1,9 @@
+#![tactic(auto)]
+
+// The same calls on two boards side by side, over two structures or over two queues.
+#[cfg(test)]
+mod draws;
+#[cfg(test)]
+mod foremost;
+#[cfg(test)]
+mod side_by_side;
