@@ -1,5 +1,6 @@
-use crate::boards::{Answer, State};
+use crate::answers::Answer;
 use crate::examples::{Example, Lent, PLENTY, check_example};
+use board_fixtures::told::State;
 use std::alloc::Global;
 use std::test::Fail;
 

@@ -1,5 +1,7 @@
-use crate::boards::{Answer, BLANK, CELLS, NODES, State, blank_rows, list, state_of, told};
+use crate::answers::{Answer, BLANK, told};
 use binary_heap::heap::BinaryHeap;
+use board_fixtures::boards::{CELLS, NODES, blank_rows, list};
+use board_fixtures::told::{State, state_of};
 use event_queue::queue::Queue;
 use fairway::stamp::Stamp;
 use pairing_heap::heap::PairingHeap;

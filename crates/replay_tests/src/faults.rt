@@ -1,5 +1,5 @@
-use crate::boards::State;
 use crate::examples::{Example, PLENTY, check_example};
+use board_fixtures::told::State;
 use std::test::Fail;
 
 // The text of a trace's records, the bytes behind them, and the fault's number and place. What is written before each is

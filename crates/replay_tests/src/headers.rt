@@ -1,6 +1,11 @@
-use crate::boards::{BLANK, BLANK_ROW, CELLS, NODES, State, list, state_of, told};
+use crate::answers::{BLANK, told};
 use binary_heap::heap::BinaryHeap;
 use board::board::Board;
+use board::call::Row;
+use board_fixtures::boards::{BLANK_ROW, CELLS, NODES, list};
+use board_fixtures::calls::ShortCall::{Advance, Enter};
+use board_fixtures::calls::{Step, first_amiss};
+use board_fixtures::told::{State, state_of};
 use event_queue::queue::Queue;
 use fairway::course::Course;
 use fairway::stamp::Stamp;
@@ -37,28 +42,40 @@ const ABOARD: [Course; 2] = [
     },
 ];
 
-// Two vessels are aboard, one has passed, and no header that is read so far changes that, the rows or the page; a sound one
-// opens the board.
-fn check_headers<Q: Queue<Key = Stamp> + Drop>(
+// The calls after which the two are so.
+const PASSED: [Step; 3] = [
+    (Enter(7, 0, 3), Ok(0)),
+    (Enter(3, 10, 1), Ok(0)),
+    (Advance(5, 1, 2), Ok(1)),
+];
+
+// No header that is read so far changes the board, the rows or the page.
+fn check_header<Q: Queue<Key = Stamp> + Drop>(
     rt: &impl Abort,
-    mut board: Board<SortedList, Q>,
-) -> Result<(), Fail> {
-    let mut rows = [BLANK_ROW; 3];
+    board: &mut Board<SortedList, Q>,
+    rows: &mut [Row; 3],
+    trace: &[u8],
+    number: u8,
+) {
+    let state = state_of(board);
+    let before = *rows;
     let mut page = [BLANK; 32];
-    board.enter(7, 0, 3)?;
-    board.enter(3, 10, 1)?;
-    board.advance(5, 1, 2, &mut rows)?;
-    let state = state_of(&board);
-    let before = rows;
-    for (trace, number) in HEADERS {
-        let answer = replay(trace, &mut board, &mut rows, &mut page);
-        assert_eq!(rt; told(answer), Err((number, 0, 0)));
-        assert_eq!(rt; board.order(), ABOARD.as_slice());
-        assert_eq!(rt; state_of(&board), state);
-        assert_eq!(rt; rows, before);
-        assert_eq!(rt; page, [BLANK; 32]);
-    }
-    let answer = replay(b"FWT\x00\x01Z", &mut board, &mut rows, &mut page);
+    let answer = replay(trace, board, rows, &mut page);
+    assert_eq!(rt; told(answer), Err((number, 0, 0)));
+    assert!(rt; board.order() == ABOARD.as_slice());
+    assert_eq!(rt; state_of(board), state);
+    assert!(rt; *rows == before);
+    assert!(rt; page == [BLANK; 32]);
+}
+
+// A sound header opens the board, and changes no row.
+fn check_sound<Q: Queue<Key = Stamp> + Drop>(
+    rt: &impl Abort,
+    board: &mut Board<SortedList, Q>,
+    rows: &mut [Row; 3],
+) {
+    let before = *rows;
+    let answer = replay(b"FWT\x00\x01Z", board, rows, &mut [BLANK; 32]);
     assert_eq!(rt; told(answer), Ok(0));
     let opened = State {
         clock: (0, 0, 1),
@@ -66,15 +83,25 @@ fn check_headers<Q: Queue<Key = Stamp> + Drop>(
         foremost: None,
         total: 0,
     };
-    assert_eq!(rt; state_of(&board), opened);
-    assert_eq!(rt; rows, before);
-    Ok(())
+    assert_eq!(rt; state_of(board), opened);
+    assert!(rt; *rows == before);
+}
+
+// Two vessels are aboard, and one has passed.
+fn check_headers<Q: Queue<Key = Stamp> + Drop>(rt: &impl Abort, mut board: Board<SortedList, Q>) {
+    let mut rows = [BLANK_ROW; 3];
+    assert_eq!(rt; first_amiss(&mut board, &PASSED, &mut rows), None);
+    for (trace, number) in &HEADERS {
+        check_header(rt, &mut board, &mut rows, trace, *number);
+    }
+    check_sound(rt, &mut board, &mut rows);
 }
 
 #[test]
 fn headers(rt: HostRuntime) -> Result<(), Fail> {
     let mut cells = CELLS;
     let mut nodes = NODES;
-    check_headers(&rt, list(rt.alloc(), BinaryHeap::new(&mut cells))?)?;
-    check_headers(&rt, list(rt.alloc(), PairingHeap::new(&mut nodes))?)
+    check_headers(&rt, list(rt.alloc(), BinaryHeap::new(&mut cells))?);
+    check_headers(&rt, list(rt.alloc(), PairingHeap::new(&mut nodes))?);
+    Ok(())
 }

@@ -2,7 +2,7 @@
 
 // Examples of replays, run over both heaps, and the worked meetings, performed on a board.
 #[cfg(test)]
-mod boards;
+mod answers;
 #[cfg(test)]
 mod crowds;
 #[cfg(test)]

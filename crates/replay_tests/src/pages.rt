@@ -1,5 +1,6 @@
-use crate::boards::{Answer, Numbers, State};
+use crate::answers::Answer;
 use crate::examples::{Example, Lent, PLENTY, check_example};
+use board_fixtures::told::{Numbers, State};
 use std::test::Fail;
 
 // Three lines, of 7, 11 and 7 bytes.

@@ -1,5 +1,5 @@
-use crate::boards::{Numbers, State};
 use crate::examples::{Example, Lent, PLENTY, check_example};
+use board_fixtures::told::{Numbers, State};
 use std::test::Fail;
 
 // The text of records, of which the board refuses one; that one's place; and the board's clock. Vessel 7 alone is aboard,

@@ -1,6 +1,7 @@
-use crate::boards::{BLANK, BLANK_ROW, CELLS, NODES, list, told};
+use crate::answers::{BLANK, told};
 use binary_heap::heap::BinaryHeap;
 use board::call::Row;
+use board_fixtures::boards::{BLANK_ROW, CELLS, NODES, list};
 use event_queue::queue::Queue;
 use fairway::stamp::Stamp;
 use pairing_heap::heap::PairingHeap;

@@ -1,5 +1,5 @@
-use crate::boards::State;
 use crate::examples::{Example, PLENTY, check_example};
+use board_fixtures::told::State;
 use std::test::Fail;
 
 const WORKED: [Example<'static>; 10] = [

@@ -1,6 +1,6 @@
-use crate::boards::{CELLS, NODES, blank_rows, list};
 use binary_heap::heap::BinaryHeap;
 use board::board::Board;
+use board_fixtures::boards::{CELLS, NODES, blank_rows, list};
 use event_queue::queue::Queue;
 use fairway::stamp::Stamp;
 use meetings::table::meetings;
