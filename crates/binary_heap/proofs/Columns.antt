@@ -5,7 +5,7 @@ use Rattle.std.proofs.lemmas.List.{map-set, length-map, get_or-map}
 use Rattle.binary_heap.specs.Slots.{Columns, columns, slot_of, ticket_at, key_at, with_key, with_entry, with_slot}
 use Rattle.binary_heap.specs.declared.cell.Cell.{Cell}
 
-pub columns_from : {K : Type 0} {k k' : List (Option K)} {s s' i i' : List ℕ} {r r' : List (Option K)} → k ≡ k' → s ≡ s' → i ≡ i' → r ≡ r' → ◌≡◌ {A = Columns K} (record { key = k; slot = s; ticket = i; rank = r }) (record { key = k'; slot = s'; ticket = i'; rank = r' })
+pub columns_from : {K : Type 0} {k k' : List (Option K)} {s s' i i' : List ℕ} {r r' : List (Option K)} → k ≡ k' → s ≡ s' → i ≡ i' → r ≡ r' → ◌≡◌ {A = Columns K} (record { key = k; slot = s; ticket = i; slot_key = r }) (record { key = k'; slot = s'; ticket = i'; slot_key = r' })
 columns_from e f g h = rw (e, f, g, h)
 
 module _ {K : Type 0} (cells : List (Cell K)) where
@@ -18,18 +18,18 @@ module _ {K : Type 0} (cells : List (Cell K)) where
   pub ticket_length : length (columns cells).ticket ≡ length cells
   ticket_length = length-map cells (λ c. c.ticket)
 
-  pub rank_length : length (columns cells).rank ≡ length cells
-  rank_length = length-map cells (λ c. Some c.rank)
+  pub slot_key_length : length (columns cells).slot_key ≡ length cells
+  slot_key_length = length-map cells (λ c. Some c.slot_key)
 
   module _ (i : ℕ) (d : Cell K) where
-    pub key_set : (k : Option K) → columns (set cells i (record { key = k; slot = (get_or cells i d).slot; ticket = (get_or cells i d).ticket; rank = (get_or cells i d).rank })) ≡ with_key (columns cells) i k
-    key_set k = columns_from (map-set (λ c. c.key) cells i _) (map_kept (λ c. c.slot) cells i d _ refl) (map_kept (λ c. c.ticket) cells i d _ refl) (map_kept (λ c. Some c.rank) cells i d _ refl)
+    pub key_set : (k : Option K) → columns (set cells i (record { key = k; slot = (get_or cells i d).slot; ticket = (get_or cells i d).ticket; slot_key = (get_or cells i d).slot_key })) ≡ with_key (columns cells) i k
+    key_set k = columns_from (map-set (λ c. c.key) cells i _) (map_kept (λ c. c.slot) cells i d _ refl) (map_kept (λ c. c.ticket) cells i d _ refl) (map_kept (λ c. Some c.slot_key) cells i d _ refl)
 
-    pub slot_set : (s : ℕ) → columns (set cells i (record { key = (get_or cells i d).key; slot = s; ticket = (get_or cells i d).ticket; rank = (get_or cells i d).rank })) ≡ with_slot (columns cells) i s
-    slot_set s = columns_from (map_kept (λ c. c.key) cells i d _ refl) (map-set (λ c. c.slot) cells i _) (map_kept (λ c. c.ticket) cells i d _ refl) (map_kept (λ c. Some c.rank) cells i d _ refl)
+    pub slot_set : (s : ℕ) → columns (set cells i (record { key = (get_or cells i d).key; slot = s; ticket = (get_or cells i d).ticket; slot_key = (get_or cells i d).slot_key })) ≡ with_slot (columns cells) i s
+    slot_set s = columns_from (map_kept (λ c. c.key) cells i d _ refl) (map-set (λ c. c.slot) cells i _) (map_kept (λ c. c.ticket) cells i d _ refl) (map_kept (λ c. Some c.slot_key) cells i d _ refl)
 
-    pub entry_set : (t : ℕ) (k : K) → columns (set cells i (record { key = (get_or cells i d).key; slot = (get_or cells i d).slot; ticket = t; rank = k })) ≡ with_entry (columns cells) i t (Some k)
-    entry_set t k = columns_from (map_kept (λ c. c.key) cells i d _ refl) (map_kept (λ c. c.slot) cells i d _ refl) (map-set (λ c. c.ticket) cells i _) (map-set (λ c. Some c.rank) cells i _)
+    pub entry_set : (t : ℕ) (k : K) → columns (set cells i (record { key = (get_or cells i d).key; slot = (get_or cells i d).slot; ticket = t; slot_key = k })) ≡ with_entry (columns cells) i t (Some k)
+    entry_set t k = columns_from (map_kept (λ c. c.key) cells i d _ refl) (map_kept (λ c. c.slot) cells i d _ refl) (map-set (λ c. c.ticket) cells i _) (map-set (λ c. Some c.slot_key) cells i _)
 
     module _ (h : i < length cells) where
       pub ticket_read : ticket_at (columns cells) i ≡ (get_or cells i d).ticket
@@ -38,6 +38,6 @@ module _ {K : Type 0} (cells : List (Cell K)) where
       pub slot_read : slot_of (columns cells) i ≡ (get_or cells i d).slot
       slot_read = get_or-map (λ c. c.slot) cells i d 0 h
 
-      pub rank_read : key_at (columns cells) i ≡ Some (get_or cells i d).rank
+      pub slot_key_read : key_at (columns cells) i ≡ Some (get_or cells i d).slot_key
       unfolding key_at
-      rank_read = get_or-map (λ c. Some c.rank) cells i d None h
+      slot_key_read = get_or-map (λ c. Some c.slot_key) cells i d None h

@@ -150,7 +150,7 @@ module _ {K : Type 0} (before : K → K → Bool) (cells cells' : List (Cell K))
 -- what stands in the first slot comes first
 module _ {K : Type 0} (before : K → K → Bool) (cells : List (Cell K)) (n : ℕ) (S : Sound before cells n) where
   pub first_held : 0 < n → (i : ℕ) (first : K) → i ≡ ticket_at (columns cells) 0 → key_at (columns cells) 0 ≡ Some first → key_of (columns cells) i ≡ Some first
-  first_held h i first ei e = ap (key_of (columns cells)) ei ∙ (S.linked.seats 0 h).holds ∙ sym (S.linked.seats 0 h).rank ∙ e
+  first_held h i first ei e = ap (key_of (columns cells)) ei ∙ (S.linked.seats 0 h).holds ∙ sym (S.linked.seats 0 h).slot_key ∙ e
 
   pub first_least : Total before → (first : K) → key_at (columns cells) 0 ≡ Some first → (i : ℕ) (k : K) → key_of (columns cells) i ≡ Some k → before k first ≡ false
   first_least o first e i k h =
@@ -158,7 +158,7 @@ module _ {K : Type 0} (before : K → K → Bool) (cells : List (Cell K)) (n : �
       let s = slot_of t i in
       let b = S.linked.within i k h in
       let seat = S.linked.seats s b in
-      let at : key_at t s ≡ Some k = seat.rank ∙ sym seat.holds ∙ ap (key_of t) (S.linked.there i k h) ∙ h in
+      let at : key_at t s ≡ Some k = seat.slot_key ∙ sym seat.holds ∙ ap (key_of t) (S.linked.there i k h) ∙ h in
       let w : sooner before (key_at t s) (key_at t 0) ≡ false = top_first before o (key_at t) n S.ordered s s (omega arith) b in
       subst (λ y. sooner before (Some k) y ≡ false) e (subst (λ x. sooner before x (key_at t 0) ≡ false) at w)
 

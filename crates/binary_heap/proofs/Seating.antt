@@ -14,7 +14,7 @@ use Rattle.binary_heap.proofs.Sifting.{later_as}
 -- The ticket i, which holds no key, gets one and stands in the slot n.
 module _ {K : Type 0} (before : K → K → Bool) (t : Columns K) (even : Even t) (n i : ℕ) (k : K) (l : Linked t n) (hn : n < length t.key) (hi : i < length t.key) (free : key_of t i ≡ None) where
   keyed_even : Even (with_key t i (Some k))
-  keyed_even = record { slot = even.slot ∙ sym (length-set t.key i (Some k)); ticket = even.ticket ∙ sym (length-set t.key i (Some k)); rank = even.rank ∙ sym (length-set t.key i (Some k)) }
+  keyed_even = record { slot = even.slot ∙ sym (length-set t.key i (Some k)); ticket = even.ticket ∙ sym (length-set t.key i (Some k)); slot_key = even.slot_key ∙ sym (length-set t.key i (Some k)) }
 
   key_here : key_of (seated (with_key t i (Some k)) n i (Some k)) i ≡ Some k
   key_here = get_or-set_same t.key i (Some k) None hi
@@ -53,7 +53,7 @@ module _ {K : Type 0} (before : K → K → Bool) (t : Columns K) (even : Even t
       ⊎_elim
       (λ e. subst (λ z. Seat (seated (with_key t i (Some k)) n i (Some k)) z) (sym e) (seat_from (seated (with_key t i (Some k)) n i (Some k)) n i k ticket_here (longer i hi) slot_here key_here rank_here))
       (λ e. let b : s < n = omega arith in
-      seat_from (seated (with_key t i (Some k)) n i (Some k)) s (ticket_at t s) (l.seats s b).key (ticket_other s b) (longer _ (l.seats s b).cell) (slot_other (ticket_at t s) (taken s b) ∙ (l.seats s b).slot) (key_other (ticket_at t s) (taken s b) ∙ (l.seats s b).holds) (same_key s b ∙ (l.seats s b).rank))
+      seat_from (seated (with_key t i (Some k)) n i (Some k)) s (ticket_at t s) (l.seats s b).key (ticket_other s b) (longer _ (l.seats s b).cell) (slot_other (ticket_at t s) (taken s b) ∙ (l.seats s b).slot) (key_other (ticket_at t s) (taken s b) ∙ (l.seats s b).holds) (same_key s b ∙ (l.seats s b).slot_key))
       (cases_eq s n)
 
   pub insert_linked : Linked (seated (with_key t i (Some k)) n i (Some k)) (n + 1)
@@ -83,7 +83,7 @@ module _ {K : Type 0} (before : K → K → Bool) (t : Columns K) (even : Even t
   after = seated (with_key t i None) (slot_of t i) (ticket_at t (n - 1)) (key_at t (n - 1))
 
   unkeyed_even : Even (with_key t i None)
-  unkeyed_even = record { slot = even.slot ∙ sym (length-set t.key i None); ticket = even.ticket ∙ sym (length-set t.key i None); rank = even.rank ∙ sym (length-set t.key i None) }
+  unkeyed_even = record { slot = even.slot ∙ sym (length-set t.key i None); ticket = even.ticket ∙ sym (length-set t.key i None); slot_key = even.slot_key ∙ sym (length-set t.key i None) }
 
   hp : slot_of t i < n
   hp = l.within i k held
@@ -135,11 +135,11 @@ module _ {K : Type 0} (before : K → K → Bool) (t : Columns K) (even : Even t
       (λ e. let ne : n - 1 ≢ slot_of t i = λ z. omega arith in
       subst (λ z. Seat after z) (sym e)
       (seat_from after (slot_of t i) (ticket_at t (n - 1)) (l.seats (n - 1) hl).key new_ticket (room_for _ (l.seats (n - 1) hl).cell) new_slot
-      (kept_key (ticket_at t (n - 1)) (not_i (n - 1) hl ne) ∙ (l.seats (n - 1) hl).holds) (new_rank ∙ (l.seats (n - 1) hl).rank)))
+      (kept_key (ticket_at t (n - 1)) (not_i (n - 1) hl ne) ∙ (l.seats (n - 1) hl).holds) (new_rank ∙ (l.seats (n - 1) hl).slot_key)))
       (λ e. let b : s < n = omega arith in
       seat_from after s (ticket_at t s) (l.seats s b).key (kept_ticket s e) (room_for _ (l.seats s b).cell)
       (kept_slot (ticket_at t s) (other_ticket s (n - 1) b hl (λ z. omega arith)) ∙ (l.seats s b).slot)
-      (kept_key (ticket_at t s) (not_i s b e) ∙ (l.seats s b).holds) (kept_at s e ∙ (l.seats s b).rank))
+      (kept_key (ticket_at t s) (not_i s b e) ∙ (l.seats s b).holds) (kept_at s e ∙ (l.seats s b).slot_key))
       (cases_eq s (slot_of t i))
 
   module _ (j : ℕ) (v : K) (h : key_of after j ≡ Some v) where
@@ -187,7 +187,7 @@ module _ {K : Type 0} (before : K → K → Bool) (t : Columns K) (even : Even t
       columns_from refl
       (sym (ap (λ j. set t.slot j (slot_of t i)) f ∙ set-get_or t.slot i 0))
       (sym (ap (λ s. set t.ticket (slot_of t i) (ticket_at t s)) (sym e) ∙ set-get_or t.ticket (slot_of t i) 0))
-      (sym (ap (λ s. set t.rank (slot_of t i) (key_at t s)) (sym e) ∙ set-get_or t.rank (slot_of t i) None))
+      (sym (ap (λ s. set t.slot_key (slot_of t i) (key_at t s)) (sym e) ∙ set-get_or t.slot_key (slot_of t i) None))
 
   pub remove_ordered : n - 1 ≤ slot_of t i → Ordered before (key_at t) n → Ordered before (key_at after) (n - 1)
   remove_ordered h o c p b = later_as before (key_at t c) _ (key_at t (parent c)) _ (kept_at c (λ z. omega arith)) (kept_at (parent c) (λ z. omega arith)) (o c p (omega arith))
@@ -205,7 +205,7 @@ module _ {K : Type 0} (before : K → K → Bool) (t : Columns K) (even : Even t
   changed = seated (with_key t i (Some k)) (slot_of t i) i (Some k)
 
   changed_even : Even (with_key t i (Some k))
-  changed_even = record { slot = even.slot ∙ sym (length-set t.key i (Some k)); ticket = even.ticket ∙ sym (length-set t.key i (Some k)); rank = even.rank ∙ sym (length-set t.key i (Some k)) }
+  changed_even = record { slot = even.slot ∙ sym (length-set t.key i (Some k)); ticket = even.ticket ∙ sym (length-set t.key i (Some k)); slot_key = even.slot_key ∙ sym (length-set t.key i (Some k)) }
 
   own_slot : slot_of t i < n
   own_slot = l.within i old held
@@ -251,7 +251,7 @@ module _ {K : Type 0} (before : K → K → Bool) (t : Columns K) (even : Even t
   seat_changed s h =
       ⊎_elim
       (λ e. subst (λ z. Seat changed z) (sym e) (seat_from changed (slot_of t i) i k (same_tickets (slot_of t i) ∙ l.there i old held) (as_long _ own_cell) (same_slots i) changed_key changed_rank))
-      (λ e. seat_from changed s (ticket_at t s) (l.seats s h).key (same_tickets s) (as_long _ (l.seats s h).cell) (same_slots (ticket_at t s) ∙ (l.seats s h).slot) (unchanged_key (ticket_at t s) (another s h e) ∙ (l.seats s h).holds) (unchanged_rank s e ∙ (l.seats s h).rank))
+      (λ e. seat_from changed s (ticket_at t s) (l.seats s h).key (same_tickets s) (as_long _ (l.seats s h).cell) (same_slots (ticket_at t s) ∙ (l.seats s h).slot) (unchanged_key (ticket_at t s) (another s h e) ∙ (l.seats s h).holds) (unchanged_rank s e ∙ (l.seats s h).slot_key))
       (cases_eq s (slot_of t i))
 
   -- a ticket that holds a key held one before

@@ -12,7 +12,7 @@ exchanged t a b = seated (seated t a (ticket_at t b) (key_at t b)) b (ticket_at 
 pub record Even {K : Type 0} (t : Columns K) : Type 0 where
   pub slot : length t.slot ≡ length t.key
   pub ticket : length t.ticket ≡ length t.key
-  pub rank : length t.rank ≡ length t.key
+  pub slot_key : length t.slot_key ≡ length t.key
 
 -- reads of one write
 module _ {K : Type 0} (t : Columns K) (even : Even t) (s i : ℕ) (k : Option K) where
@@ -24,7 +24,7 @@ module _ {K : Type 0} (t : Columns K) (even : Even t) (s i : ℕ) (k : Option K)
 
   pub seated_key : s < length t.key → key_at (seated t s i k) s ≡ k
   unfolding key_at
-  seated_key h = get_or-set_same t.rank s k None (omega (arith, even.rank))
+  seated_key h = get_or-set_same t.slot_key s k None (omega (arith, even.slot_key))
 
   pub seated_ticket_other : (z : ℕ) → z ≢ s → ticket_at (seated t s i k) z ≡ ticket_at t z
   seated_ticket_other z h = get_or-set_other t.ticket s z i 0 h
@@ -34,10 +34,10 @@ module _ {K : Type 0} (t : Columns K) (even : Even t) (s i : ℕ) (k : Option K)
 
   pub seated_key_other : (z : ℕ) → z ≢ s → key_at (seated t s i k) z ≡ key_at t z
   unfolding key_at
-  seated_key_other z h = get_or-set_other t.rank s z k None h
+  seated_key_other z h = get_or-set_other t.slot_key s z k None h
 
   pub seated_even : Even (seated t s i k)
-  seated_even = record { slot = length-set t.slot i s ∙ even.slot; ticket = length-set t.ticket s i ∙ even.ticket; rank = length-set t.rank s k ∙ even.rank }
+  seated_even = record { slot = length-set t.slot i s ∙ even.slot; ticket = length-set t.ticket s i ∙ even.ticket; slot_key = length-set t.slot_key s k ∙ even.slot_key }
 
   -- a ticket that has a cell is seated
   pub seated_within : s < length t.key → i < length t.key → (n : ℕ) → ((z : ℕ) → z < n → z ≢ s → ticket_at t z < length t.key) → Within (seated t s i k) n
@@ -53,7 +53,7 @@ keyed_within t u i k n e w = subst (λ y. Within y n) (sym e) (λ z h. omega (ar
 
 -- a seat from what is read of it
 pub seat_from : {K : Type 0} (t : Columns K) (s i : ℕ) (k : K) → ticket_at t s ≡ i → i < length t.key → slot_of t i ≡ s → key_of t i ≡ Some k → key_at t s ≡ Some k → Seat t s
-seat_from t s i k e h f g r = record { cell = subst (λ j. j < length t.key) (sym e) h; slot = ap (slot_of t) e ∙ f; key = k; holds = ap (key_of t) e ∙ g; rank = r }
+seat_from t s i k e h f g r = record { cell = subst (λ j. j < length t.key) (sym e) h; slot = ap (slot_of t) e ∙ f; key = k; holds = ap (key_of t) e ∙ g; slot_key = r }
 
 -- An exchange of two slots.
 module _ {K : Type 0} (t : Columns K) (even : Even t) (n : ℕ) (l : Linked t n) (a b : ℕ) (ha : a < n) (hb : b < n) (ne : a ≢ b) where
@@ -97,12 +97,12 @@ module _ {K : Type 0} (t : Columns K) (even : Even t) (n : ℕ) (l : Linked t n)
   seat : (s : ℕ) → s < n → Seat (exchanged t a b) s
   seat s h =
       ⊎_elim
-      (λ e. subst (λ z. Seat (exchanged t a b) z) (sym e) (seat_from (exchanged t a b) a (ticket_at t b) (l.seats b hb).key ticket_a (l.seats b hb).cell slot_b (l.seats b hb).holds (exchange_first ∙ (l.seats b hb).rank)))
+      (λ e. subst (λ z. Seat (exchanged t a b) z) (sym e) (seat_from (exchanged t a b) a (ticket_at t b) (l.seats b hb).key ticket_a (l.seats b hb).cell slot_b (l.seats b hb).holds (exchange_first ∙ (l.seats b hb).slot_key)))
       (λ p. ⊎_elim
-      (λ e. subst (λ z. Seat (exchanged t a b) z) (sym e) (seat_from (exchanged t a b) b (ticket_at t a) (l.seats a ha).key ticket_b (l.seats a ha).cell slot_a (l.seats a ha).holds (exchange_second ∙ (l.seats a ha).rank)))
+      (λ e. subst (λ z. Seat (exchanged t a b) z) (sym e) (seat_from (exchanged t a b) b (ticket_at t a) (l.seats a ha).key ticket_b (l.seats a ha).cell slot_a (l.seats a ha).holds (exchange_second ∙ (l.seats a ha).slot_key)))
       (λ q. seat_from (exchanged t a b) s (ticket_at t s) (l.seats s h).key (ticket_other s p q) (l.seats s h).cell
       (slot_other (ticket_at t s) (λ e. p (sym (l.seats s h).slot ∙ ap (slot_of t) e ∙ (l.seats a ha).slot)) (λ e. q (sym (l.seats s h).slot ∙ ap (slot_of t) e ∙ (l.seats b hb).slot)) ∙ (l.seats s h).slot)
-      (l.seats s h).holds (exchange_others s p q ∙ (l.seats s h).rank))
+      (l.seats s h).holds (exchange_others s p q ∙ (l.seats s h).slot_key))
       (cases_eq s b))
       (cases_eq s a)
 
@@ -137,7 +137,7 @@ module _ {K : Type 0} (t : Columns K) (even : Even t) (a b i : ℕ) (k : Option 
       (cases_eq x i)
 
   seated_over : (x : ℕ) (kx : Option K) → seated (seated t a x kx) b i k ≡ seated (seated (seated t a i k) a x kx) b i k
-  seated_over x kx = rw (slots_over t.slot x, set-set t.ticket a i x, set-set t.rank a k kx)
+  seated_over x kx = rw (slots_over t.slot x, set-set t.ticket a i x, set-set t.slot_key a k kx)
 
   moved_ticket : ticket_at (seated t a i k) b ≡ ticket_at t b
   moved_ticket = seated_ticket_other t even a i k b (λ e. ne (sym e))

@@ -8,12 +8,12 @@ use Rattle.binary_heap.specs.declared.cell.Cell.{Cell}
 use Rattle.binary_heap.specs.Slots.{Columns, columns, ticket_at, key_at, Within, seated, Linked}
 use Rattle.binary_heap.specs.Orders.{parent, Upward, Downward, Loose, FirstChild, SoonerChild}
 use Rattle.binary_heap.specs.Sifts.{Settled}
-use Rattle.binary_heap.proofs.Columns.{key_length, slot_length, ticket_length, rank_length}
+use Rattle.binary_heap.proofs.Columns.{key_length, slot_length, ticket_length, slot_key_length}
 use Rattle.binary_heap.proofs.Seats.{Even, exchanged, exchange_linked, exchange_first, exchange_second, exchange_others, seated_even, seated_ticket, seated_ticket_other, move_exchanges, move_here, move_there}
 use Rattle.binary_heap.proofs.Sifting.{Swapped, later_as, up_step, up_top, up_stop, down_step, down_stop, loose_top, loose_down, loose_up}
 
 pub cells_even : {K : Type 0} (cells : List (Cell K)) → Even (columns cells)
-cells_even cells = record { slot = slot_length cells ∙ sym (key_length cells); ticket = ticket_length cells ∙ sym (key_length cells); rank = rank_length cells ∙ sym (key_length cells) }
+cells_even cells = record { slot = slot_length cells ∙ sym (key_length cells); ticket = ticket_length cells ∙ sym (key_length cells); slot_key = slot_key_length cells ∙ sym (key_length cells) }
 
 -- the tickets of t stand in the first n slots of u, and only the slot s may have to go up
 pub record Rising {K : Type 0} (before : K → K → Bool) (t u : Columns K) (n s : ℕ) : Type 0 where

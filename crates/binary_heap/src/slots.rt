@@ -21,12 +21,12 @@ pub struct Entry<K> {
 }
 
 // Reads the key in a slot.
-#[tactic(auto, using(crate::proofs::Columns::rank_read))]
+#[tactic(auto, using(crate::proofs::Columns::slot_key_read))]
 pub fn key_at<K: Key>(cells: &[Cell<K>], slot: usize) -> K
     requires { slot < length cells.now }
     ensures { key_at (columns cells.now) slot ≡ Some result }
 {
-    cells[slot].rank
+    cells[slot].slot_key
 }
 
 // Reads what stands in a slot.
@@ -60,7 +60,7 @@ fn set_entry<K: Key>(cells: &mut [Cell<K>], slot: usize, ticket: u32, key: K)
 {
     let cell = &mut cells[slot];
     cell.ticket = ticket;
-    cell.rank = key;
+    cell.slot_key = key;
 }
 
 // Writes the slot of a ticket.

@@ -14,7 +14,7 @@ pub const CELLS: [Cell<Stamp>; 64] = [Cell {
     key: None,
     slot: 0,
     ticket: 0,
-    rank: Stamp {
+    slot_key: Stamp {
         seconds: 0,
         numerator: 0,
         denominator_less_one: 0,

@@ -33,7 +33,7 @@ fn run(rt: &HostRuntime) -> anyhow::Result<()> {
         key: None,
         slot: 0,
         ticket: 0,
-        rank: Stamp {
+        slot_key: Stamp {
             seconds: 0,
             numerator: 0,
             denominator_less_one: 0,

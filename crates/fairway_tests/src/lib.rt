@@ -122,7 +122,7 @@ mod tests {
             key: None,
             slot: 0,
             ticket: 0,
-            rank: stamp(0, 0, 0),
+            slot_key: stamp(0, 0, 0),
         }; 3];
         let mut queue = BinaryHeap::new(&mut cells);
         assert_eq!(rt; queue.put(0, stamp(3, 2, 3)), Ok(()));

@@ -16,7 +16,7 @@ mod tests {
         key: Some(7),
         slot: 69,
         ticket: 70,
-        rank: 71,
+        slot_key: 71,
     };
 
     // A node with a key and links that a new heap does not heed.

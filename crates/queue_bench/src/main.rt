@@ -18,7 +18,7 @@ fn sum_of(chosen: Choice, calls: u32) -> u64 {
                 key: None,
                 slot: 0,
                 ticket: 0,
-                rank: 0,
+                slot_key: 0,
             }; 64];
             let mut queue: BinaryHeap<u32> = BinaryHeap::new(&mut cells);
             run_calls(&mut queue, calls)

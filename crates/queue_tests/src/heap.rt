@@ -11,7 +11,7 @@ const WORN: Cell<u32> = Cell {
     key: Some(7),
     slot: 99,
     ticket: 3,
-    rank: 5,
+    slot_key: 5,
 };
 
 // The key that a ticket is given.

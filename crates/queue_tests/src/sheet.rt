@@ -12,7 +12,7 @@ fn a_line_is_awaited_anew(rt: HostRuntime) {
         key: None,
         slot: 0,
         ticket: 0,
-        rank: 0,
+        slot_key: 0,
     }; 4];
     let mut sheet = CallSheet::new(BinaryHeap::new(&mut cells));
     assert_eq!(rt; sheet.await_at(3, 100), Ok(()));

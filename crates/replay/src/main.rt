@@ -42,7 +42,7 @@ fn replay_onto(
         key: None,
         slot: 0,
         ticket: 0,
-        rank: Stamp {
+        slot_key: Stamp {
             seconds: 0,
             numerator: 0,
             denominator_less_one: 0,

@@ -49,7 +49,7 @@ fn run(rt: &HostRuntime) -> anyhow::Result<()> {
                 key: None,
                 slot: 0,
                 ticket: 0,
-                rank: 0,
+                slot_key: 0,
             }; 64];
             let queue: BinaryHeap<u32> = BinaryHeap::new(&mut cells);
             stand_watch(heap, queue, script.as_slice())?
