@@ -139,6 +139,19 @@ def advances(draw):
     return bytes(trace) + ORDER * rest + END
 
 
+def passing(draw, active, idle):
+    """Two traces: vessels of which the active ones all pass each other within 600 seconds, and the idle ones stay far in front of
+    them; and the same without the advance in which they pass. The first has a mend more for each pair of active ones."""
+    numbers = draw.sample(range(1, 65_536), active + idle)
+    positions = sorted(draw.sample(range(12_000), active))
+    trace = bytearray(HEADER)
+    for i in range(active):
+        trace += enter(numbers[i], positions[i], 970 - 30 * i + draw.randrange(9))
+    for i in range(idle):
+        trace += enter(numbers[active + i], 50_000_000 + 1_000 * i, 0)
+    return bytes(trace + advance(600) + END), bytes(trace + END)
+
+
 # The traces that are compared.
 
 
