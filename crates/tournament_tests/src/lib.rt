@@ -48,6 +48,42 @@ mod tests {
         settle(list, at) == settle(tournament, at)
     }
 
+    // The same vessel enters both.
+    fn enter(
+        list: &mut SortedList,
+        tournament: &mut Tournament,
+        course: Course,
+        at: Stamp,
+    ) -> Result<(), Refusal> {
+        list.enter(course, at)?;
+        tournament.enter(course, at)?;
+        Ok(())
+    }
+
+    // The same vessel leaves both.
+    fn leave(
+        list: &mut SortedList,
+        tournament: &mut Tournament,
+        number: u16,
+        at: Stamp,
+    ) -> Result<(), Refusal> {
+        list.leave(number, at)?;
+        tournament.leave(number, at)?;
+        Ok(())
+    }
+
+    // The same vessel takes a course on both.
+    fn steer(
+        list: &mut SortedList,
+        tournament: &mut Tournament,
+        course: Course,
+        at: Stamp,
+    ) -> Result<(), Refusal> {
+        list.steer(course, at)?;
+        tournament.steer(course, at)?;
+        Ok(())
+    }
+
     // No vessel: nothing is due, and there is no foremost.
     #[test]
     fn none(rt: HostRuntime) -> Result<(), Fail> {
@@ -68,8 +104,7 @@ mod tests {
     fn one(rt: HostRuntime) -> Result<(), Fail> {
         let mut list = SortedList::new(rt.alloc())?;
         let mut tournament = Tournament::new();
-        list.enter(vessel(8, 3, 5), second(0))?;
-        tournament.enter(vessel(8, 3, 5), second(0))?;
+        enter(&mut list, &mut tournament, vessel(8, 3, 5), second(0))?;
         assert_eq!(rt; tournament.count(), 1);
         assert_eq!(rt; tournament.course(8), Some(vessel(8, 3, 5)));
         assert_eq!(rt; tournament.course(9), None);
@@ -87,8 +122,7 @@ mod tests {
         let mut list = SortedList::new(rt.alloc())?;
         let mut tournament = Tournament::new();
         for course in three_vessels() {
-            list.enter(course, second(0))?;
-            tournament.enter(course, second(0))?;
+            enter(&mut list, &mut tournament, course, second(0))?;
         }
         assert_eq!(rt; tournament.foremost(), Some(5));
         assert_eq!(rt; tournament.load(), 11);
@@ -136,15 +170,13 @@ mod tests {
         let mut list = SortedList::new(rt.alloc())?;
         let mut tournament = Tournament::new();
         for number in [9, 4, 7, 12, 1] {
-            list.enter(vessel(number, 2, 30), second(1))?;
-            tournament.enter(vessel(number, 2, 30), second(1))?;
+            enter(&mut list, &mut tournament, vessel(number, 2, 30), second(1))?;
         }
         assert_eq!(rt; tournament.foremost(), Some(12));
         assert_eq!(rt; tournament.load(), 0);
         assert_eq!(rt; first_due(&tournament, second(100)), None);
         assert!(rt; same_foremost(&mut list, &mut tournament, second(100)));
-        list.enter(vessel(3, 5, 0), second(2))?;
-        tournament.enter(vessel(3, 5, 0), second(2))?;
+        enter(&mut list, &mut tournament, vessel(3, 5, 0), second(2))?;
         assert_eq!(rt; tournament.load(), 6);
         for seconds in [2, 9, 10, 11] {
             assert!(rt; same_foremost(&mut list, &mut tournament, second(seconds)));
@@ -160,26 +192,37 @@ mod tests {
         let mut list = SortedList::new(rt.alloc())?;
         let mut tournament = Tournament::new();
         for number in 1..65 {
-            list.enter(vessel_of_many(number), second(0))?;
-            tournament.enter(vessel_of_many(number), second(0))?;
+            enter(
+                &mut list,
+                &mut tournament,
+                vessel_of_many(number),
+                second(0),
+            )?;
         }
         assert_eq!(rt; tournament.count(), 64);
         for seconds in 0..20 {
             assert!(rt; same_foremost(&mut list, &mut tournament, second(seconds)));
         }
         for number in [64, 31, 10, 21, 43] {
-            list.leave(number, second(20))?;
-            tournament.leave(number, second(20))?;
+            leave(&mut list, &mut tournament, number, second(20))?;
             assert!(rt; same_foremost(&mut list, &mut tournament, second(20)));
         }
         for number in [1, 32, 54] {
-            list.steer(vessel(number, 3, -60), second(21))?;
-            tournament.steer(vessel(number, 3, -60), second(21))?;
+            steer(
+                &mut list,
+                &mut tournament,
+                vessel(number, 3, -60),
+                second(21),
+            )?;
             assert!(rt; same_foremost(&mut list, &mut tournament, second(21)));
         }
         for number in [64, 10, 99] {
-            list.enter(vessel(number, 3, -30), second(22))?;
-            tournament.enter(vessel(number, 3, -30), second(22))?;
+            enter(
+                &mut list,
+                &mut tournament,
+                vessel(number, 3, -30),
+                second(22),
+            )?;
             assert!(rt; same_foremost(&mut list, &mut tournament, second(22)));
         }
         assert_eq!(rt; tournament.count(), list.count());
