@@ -52,15 +52,15 @@ pub fn set_key<K: Key>(cells: &mut [Cell<K>], ticket: usize, key: Option<K>)
     cells[ticket].key = key;
 }
 
-// Writes what stands in a slot.
+// Writes what stands in a slot. The key goes first: behind the ticket it would be copied by way of the stack.
 #[tactic(auto, using(crate::proofs::Columns::entry_set))]
 fn set_entry<K: Key>(cells: &mut [Cell<K>], slot: usize, ticket: u32, key: K)
     requires { slot < length cells.old }
     ensures { columns cells.new ≡ with_entry (columns cells.old) slot ticket (Some key) }
 {
     let cell = &mut cells[slot];
-    cell.ticket = ticket;
     cell.slot_key = key;
+    cell.ticket = ticket;
 }
 
 // Writes the slot of a ticket.
