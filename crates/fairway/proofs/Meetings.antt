@@ -1,5 +1,5 @@
 -- Level instants: lowest terms, the pair before and after, and the bounds.
-use Rattle.std.proofs.Common.{◌≡◌, ℕ, ◌+◌, ◌-◌, ◌*◌, ◌/◌, ◌%◌, ◌<◌, ◌≤◌, true, false, ◌&&◌, ℤ, pos, negsuc, ◌+ℤ◌, ◌-ℤ◌, ◌*ℤ◌, nat_abs, ◌≤ℤ◌, ◌<ℤ◌, Some, None, Ok, sym, refl, ap, ◌∙◌, subst, inl, inr, ⊎_elim, mul-le-mul_right, mod-lt, mul_comm, mul-lt-mul_of_pos_right, div-le_self, le_of_mul-le-mul_right, arith}
+use Rattle.std.proofs.Common.{◌≡◌, ℕ, ◌+◌, ◌-◌, ◌*◌, ◌/◌, ◌%◌, ◌<◌, ◌≤◌, Bool, true, false, ◌&&◌, ℤ, pos, negsuc, ◌+ℤ◌, ◌-ℤ◌, ◌*ℤ◌, nat_abs, ◌≤ℤ◌, ◌<ℤ◌, Some, None, Ok, sym, refl, ap, ◌∙◌, subst, inl, inr, ⊎_elim, mul-le-mul_right, mod-lt, mul_comm, mul-lt-mul_of_pos_right, div-le_self, le_of_mul-le-mul_right, arith}
 use native.Mathlib.Nat.{div-add-mod}
 use lib.Signed.{le_z}
 use Rattle.std.proofs.lemmas.Int.{ints, by_lt_z}
@@ -8,7 +8,7 @@ use Rattle.event_queue.proofs.Options.{none_some, some_same}
 use Rattle.fairway.specs.Times.{Time, ratio, whole_and, ◌≤ᵗ◌, ◌=ᵗ◌}
 use Rattle.fairway.specs.Fractions.{gcd, Coprime}
 use Rattle.fairway.specs.Stamps.{den, time_of, BelowOne}
-use Rattle.fairway.specs.Courses.{InRange, faster, Due}
+use Rattle.fairway.specs.Courses.{Decides, InRange, faster, Due}
 use Rattle.fairway.specs.Behind.{FromLevel}
 use Rattle.fairway.specs.Meetings.{lowest_stamp, gap, gain, level, TurnsAt, LevelInstant, Meets, LevelAnswer}
 use Rattle.fairway.specs.Standing.{NotLevelBefore}
@@ -76,6 +76,15 @@ le_from x y D G n d e g h = omega (arith, ints, mul_comm n G, rw (e, g) at h)
 
 eq_to : (x y : ℤ) (D G n d : ℕ) → x ≡ pos G → y ≡ pos D → n * G ≡ D * d → (x *ℤ pos n) ≡ (y *ℤ pos d)
 eq_to x y D G n d e g h = rw (e, g) (omega (arith, ints, mul_comm n G))
+
+eq_from : (x y : ℤ) (D G n d : ℕ) → x ≡ pos G → y ≡ pos D → (x *ℤ pos n) ≡ (y *ℤ pos d) → n * G ≡ D * d
+eq_from x y D G n d e g h = omega (arith, ints, mul_comm n G, rw (e, g) at h)
+
+even_ways : (rb fb rs fs : ℤ) (n d : ℕ) → rb *ℤ pos d +ℤ rs *ℤ pos n ≡ fb *ℤ pos d +ℤ fs *ℤ pos n → (rs -ℤ fs) *ℤ pos n ≡ (fb -ℤ rb) *ℤ pos d
+even_ways rb fb rs fs n d e =
+    let a = sub_mul rs fs n in
+    let b = sub_mul fb rb d in
+    omega (arith, ints)
 
 even_places : (rb fb rs fs : ℤ) (n d : ℕ) → (rs -ℤ fs) *ℤ pos n ≡ (fb -ℤ rb) *ℤ pos d → rb *ℤ pos d +ℤ rs *ℤ pos n ≡ fb *ℤ pos d +ℤ fs *ℤ pos n
 even_places rb fb rs fs n d e =
@@ -181,6 +190,31 @@ gone_before r f F B =
       value = sym (cond-false (faster r f && le_z r.base f.base) (Some (lowest_stamp (gap r f) (gain r f))) None (and_right (faster r f) (le_z r.base f.base) (ahead r.base f.base B)));
       meets = inr (F, λ t p. (passes t r f F).3 (always_ahead r f F B t));
     }
+
+-- a faster rear is level where its gain makes up the gap
+pub due_where : (t : Time) (r f : Course) → faster r f ≡ true → r.base ≤ℤ f.base → (b : Bool) → Decides (t.num * gain r f ≡ gap r f * t.den) b → Decides (Due t r f) b
+due_where t r f F B b h = (
+  λ e. (even_places r.base f.base r.speed f.speed t.num t.den (eq_to (r.speed -ℤ f.speed) (f.base -ℤ r.base) (gap r f) (gain r f) t.num t.den (gained r f F B) (apart r f F B) (h.0 e)), slow r f F B),
+  λ e d. h.1 e (eq_from (r.speed -ℤ f.speed) (f.base -ℤ r.base) (gap r f) (gain r f) t.num t.den (gained r f F B) (apart r f F B) (even_ways r.base f.base r.speed f.speed t.num t.den d.0)),
+)
+
+below_nothing : (z : ℤ) (n : ℕ) → 0 < n → z <ℤ pos 0 → (z *ℤ pos n) <ℤ pos 0
+below_nothing z n p h =
+    let a = sub_mul z (negsuc 0) n in
+    let b = not_above (z -ℤ negsuc 0) n (omega (arith, ints)) in
+    omega (arith, ints)
+
+-- and never where it was ahead at second 0
+never_due : (t : Time) (r f : Course) → 0 < t.den → faster r f ≡ true → f.base <ℤ r.base → Due t r f → ⊥
+never_due t r f p F B d =
+    let s : f.speed <ℤ r.speed = grind (arith, ints) in
+    let e = even_ways r.base f.base r.speed f.speed t.num t.den d.0 in
+    let x = below_nothing (f.base -ℤ r.base) t.den p (omega (arith, ints)) in
+    let y = not_below (r.speed -ℤ f.speed) t.num (omega (arith, ints)) in
+    omega (arith, ints)
+
+pub not_due_ahead : (t : Time) (r f : Course) → 0 < t.den → faster r f ≡ true → f.base <ℤ r.base → Decides (Due t r f) false
+not_due_ahead t r f p F B = ((λ e. cc), (λ e. never_due t r f p F B))
 
 -- ---- for crates above
 

@@ -20,7 +20,7 @@ past rb fb rs fs n d h k =
     let b = sub_mul fb rb d in
     omega (arith, ints)
 
-test_no : (x y : ℤ) → lt_z x y ≡ false → y ≤ℤ x
+pub test_no : (x y : ℤ) → lt_z x y ≡ false → y ≤ℤ x
 test_no x y h = grind (arith, ints)
 
 test_yes : (x y : ℤ) → lt_z x y ≡ true → x <ℤ y

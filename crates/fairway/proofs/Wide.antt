@@ -22,20 +22,3 @@ place_fits x y d n f g h k =
     let s = sized 9223372036854775808 65536 x d (omega (arith, ints)) (omega (arith, ints)) h in
     let t = sized 32768 2417851639229258349412352 y n (omega (arith, ints)) (omega (arith, ints)) (omega arith) in
     omega (arith, ints)
-
--- ---- and 64 bits, where base and time are small
-pub record Small (z : ℤ) : Type 0 where
-  pub high : up z ≤ 35184372088832
-  pub low : down z ≤ 35184372088832
-
-pub narrow_base_fits : (z : ℤ) (d : ℕ) → Small z → d ≤ 65536 → SFits w64 (z *ℤ pos d)
-narrow_base_fits z d f h = let s = sized 35184372088832 65536 z d f.high f.low h in omega (arith, ints)
-
-pub narrow_speed_fits : (z : ℤ) (d : ℕ) → SFits w16 z → d ≤ 140737488420864 → SFits w64 (z *ℤ pos d)
-narrow_speed_fits z d f h = let s = sized 32768 140737488420864 z d (omega (arith, ints)) (omega (arith, ints)) h in omega (arith, ints)
-
-pub narrow_place_fits : (x y : ℤ) (d n : ℕ) → Small x → SFits w16 y → d ≤ 65536 → n ≤ 140737488420864 → SFits w64 ((x *ℤ pos d) +ℤ (y *ℤ pos n))
-narrow_place_fits x y d n f g h k =
-    let s = sized 35184372088832 65536 x d f.high f.low h in
-    let t = sized 32768 140737488420864 y n (omega (arith, ints)) (omega (arith, ints)) k in
-    omega (arith, ints)

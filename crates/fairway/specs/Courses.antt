@@ -1,16 +1,11 @@
 -- Courses on one line: positions, speeds, limits.
-use Rattle.std.specs.Prelude.{◌≡◌, ◌<◌, Bool, true, false, Some, None, Option, ℤ, pos, negsuc, ◌+ℤ◌, ◌*ℤ◌, ◌≤ℤ◌, ◌<ℤ◌, int_lt}
+use Rattle.std.specs.Prelude.{◌≡◌, ◌<◌, Bool, true, false, ℤ, pos, negsuc, ◌+ℤ◌, ◌*ℤ◌, ◌≤ℤ◌, ◌<ℤ◌, int_lt}
 use Rattle.fairway.specs.Times.{Time}
 use Rattle.fairway.specs.declared.course.Course.{Course}
 
 -- the answer tells whether P holds
 abbrev pub Decides : Type 0 → Bool → Type 0
 Decides P b = (b ≡ true → P) × (b ≡ false → P → ⊥)
-
--- the number, or none
-abbrev pub Exact : ℤ → Option ℤ → Type 0
-Exact z None = Unit {0}
-Exact z (Some p) = p ≡ z
 
 -- the limits of a course: a number, at most 1,000 cm/s either way, and a base at most 33,654,432,000 in size
 pub record InRange (c : Course) : Type 0 where

@@ -1,6 +1,6 @@
 ghost use Rattle.std.specs.Prelude.{◌≡◌, ◌+◌, ◌*◌, ◌^◌, ◌<◌, ◌≤◌};
 ghost use Rattle.fairway.specs.Stamps.{time_of, den};
-ghost use Rattle.fairway.specs.Courses.{Decides, Exact, InRange, place, Level, faster};
+ghost use Rattle.fairway.specs.Courses.{Decides, InRange, place, Level, faster};
 ghost use Rattle.fairway.specs.Behind.{behind};
 ghost use Rattle.fairway.specs.Instants.{value};
 
@@ -13,9 +13,6 @@ const MOST_SPEED: i16 = 1000;
 // The greatest base of a course in range, either way, in centimetres.
 const MOST_BASE: i64 = 33_654_432_000;
 
-// The greatest base, either way, of a course whose positions are reckoned in 64 bits: 2^45.
-const NARROW_BASE: i64 = 35_184_372_088_832;
-
 // A vessel's course on the waterway: its number, its speed in centimetres a second, and its base, the
 // position in centimetres reckoned back to second 0.
 #[derive(Clone, Copy, PartialEq, Eq, Debug)]
@@ -26,7 +23,7 @@ pub struct Course {
 }
 
 // The time of a stamp in parts of a second, as many to one as the denominator.
-fn parts_of(at: Stamp) -> u128
+pub(crate) fn parts_of(at: Stamp) -> u128
     ensures value { result ≡ at.seconds * den at + at.numerator }
     ensures small { result < 2 ^ 81 }
 {
@@ -34,7 +31,7 @@ fn parts_of(at: Stamp) -> u128
 }
 
 // The same in 64 bits, before second 2^31.
-fn narrow_parts_of(at: Stamp) -> u64
+pub(crate) fn narrow_parts_of(at: Stamp) -> u64
     requires { at.seconds < 2 ^ 31 }
     ensures value { result ≡ at.seconds * den at + at.numerator }
     ensures small { result ≤ 140737488420864 }
@@ -62,19 +59,6 @@ impl Course {
             + self.speed as i128 * parts as i128
     }
 
-    // The same in 64 bits, which takes half of the instructions; none where the base is above 2^45 in size, or the
-    // stamp from second 2^31 on.
-    fn narrow_position_at(self, at: Stamp) -> Option<i64>
-        ensures { Exact (place (time_of at) self) result }
-    {
-        if at.seconds >= 1 << 31 || !(-NARROW_BASE..=NARROW_BASE).contains(&self.base) {
-            return None;
-        }
-        let parts = narrow_parts_of(at);
-        let denominator = at.denominator_less_one as i64 + 1;
-        Some(self.base * denominator + self.speed as i64 * parts as i64)
-    }
-
     // The position at an instant, in parts of a centimetre, as many to one as the instant's denominator.
     pub fn position(self, at: Instant) -> i128
         ensures { result ≡ place (value at) self }
@@ -91,18 +75,6 @@ impl Course {
 
     // Whether the two are at the same position.
     pub fn is_level(self, other: Course, at: Stamp) -> bool
-        ensures { Decides (Level (time_of at) self other) result }
-    {
-        let narrow = (self.narrow_position_at(at), other.narrow_position_at(at));
-        if let (Some(own), Some(others)) = narrow {
-            return own == others;
-        }
-        self.is_level_wide(other, at)
-    }
-
-    // The same in 128 bits, whatever the numbers are.
-    #[cold]
-    fn is_level_wide(self, other: Course, at: Stamp) -> bool
         ensures { Decides (Level (time_of at) self other) result }
     {
         self.position_at(at) == other.position_at(at)

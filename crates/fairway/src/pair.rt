@@ -1,11 +1,11 @@
-ghost use Rattle.std.specs.Prelude.{◌≡◌, ◌<◌};
+ghost use Rattle.std.specs.Prelude.{◌≡◌, ◌*◌, ◌<◌};
 ghost use Rattle.fairway.specs.Stamps.{time_of};
 ghost use Rattle.fairway.specs.Courses.{Decides, Due};
 ghost use Rattle.fairway.specs.Meetings.{lowest_stamp, LevelAnswer};
 ghost use Rattle.fairway.specs.Orders.{turns, pair};
 ghost use Rattle.fairway.specs.Pairs.{InOrder, Past};
 
-use crate::course::Course;
+use crate::course::{Course, narrow_parts_of, parts_of};
 use crate::euclid::greatest_common_divisor;
 use crate::stamp::Stamp;
 
@@ -31,11 +31,21 @@ impl Pair {
         self.rear.is_behind(self.front, at)
     }
 
-    // Whether the pair is due: level, and the rear is faster.
+    // Whether the pair is due: level, and the rear is faster. A rear that was ahead at second 0 is never level again.
     pub fn is_due(self, at: Stamp) -> bool
         ensures { Decides (Due (time_of at) self.rear self.front) result }
     {
-        self.rear.is_level(self.front, at) && self.rear.is_faster(self.front)
+        if !self.rear.is_faster(self.front) {
+            return false;
+        }
+        if self.front.base < self.rear.base {
+            return false;
+        }
+        is_made_up(
+            self.front.base.abs_diff(self.rear.base),
+            self.rear.speed.abs_diff(self.front.speed),
+            at,
+        )
     }
 
     // Whether an advance turns the pair: in order at its beginning, and the other way round at its end.
@@ -70,6 +80,24 @@ impl Pair {
         let speed = rear.speed.abs_diff(front.speed);
         Some(quotient(distance, speed))
     }
+}
+
+// Whether a speed makes up a distance just at a stamp. It is reckoned in 64 bits where both products fit them.
+fn is_made_up(distance: u64, speed: u16, at: Stamp) -> bool
+    ensures { Decides ((time_of at).num * speed ≡ distance * (time_of at).den) result }
+{
+    if distance > 1 << 47 || at.seconds >= 1 << 31 {
+        return is_made_up_wide(distance, speed, at);
+    }
+    narrow_parts_of(at) * speed as u64 == distance * (at.denominator_less_one as u64 + 1)
+}
+
+// The same in 128 bits, whatever the numbers are.
+#[cold]
+fn is_made_up_wide(distance: u64, speed: u16, at: Stamp) -> bool
+    ensures { Decides ((time_of at).num * speed ≡ distance * (time_of at).den) result }
+{
+    parts_of(at) * speed as u128 == distance as u128 * (at.denominator_less_one as u128 + 1)
 }
 
 // A quotient as whole seconds and a fraction in lowest terms.
