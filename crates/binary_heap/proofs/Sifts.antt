@@ -22,7 +22,7 @@ pub record Rising {K : Type 0} (before : K → K → Bool) (t u : Columns K) (n 
   pub within : s < n
   pub upward : Upward before (key_at u) n s
 
--- the same, and only the slot s may have to go down
+-- the tickets of t stand in the first n slots of u, and only the slot s may have to go down
 pub record Sinking {K : Type 0} (before : K → K → Bool) (t u : Columns K) (n s : ℕ) : Type 0 where
   pub keys : u.key ≡ t.key
   pub linked : Linked u n

@@ -8,12 +8,12 @@ use event_queue::key::Key;
 use event_queue::queue::Queue;
 use event_queue::refusal::Refusal;
 
-// An event queue as a binary heap with an index by ticket, in cells that the caller lends: the first 64,
-// or all if they are fewer. The memory is lent and fixed, so the size is counted beside it.
-// What a heap that was set up here keeps whatever its calls do: there is room for its size, and the tickets in
-// its slots have cells, so that a sift need not ask. That it is sound is a premise of contracts and no ghost field:
-// as a field it would make every definition that names the heap take the key kind along, and the interface asks it
-// of any queue all the same.
+/// An event queue as a binary heap with an index by ticket, in cells that the caller lends: the first 64,
+/// or all if they are fewer.
+// The memory is lent and fixed, so the size is counted beside it. What a heap that was set up here keeps whatever
+// its calls do: there is room for its size, and the tickets in its slots have cells, so that a sift need not ask.
+// That it is sound is a premise of contracts and no ghost field: as a field it would make every definition that
+// names the heap take the key kind along, and the interface asks it of any queue all the same.
 #[derive(Drop)]
 pub struct BinaryHeap<'a, K> {
     cells: &'a mut [Cell<K>],
@@ -23,15 +23,18 @@ pub struct BinaryHeap<'a, K> {
 }
 
 impl<'a, K: Key> BinaryHeap<'a, K> {
-    ghost use Rattle.std.specs.Prelude.{◌≡◌, drop};
+    ghost use Rattle.std.specs.Prelude.{◌≡◌, map, drop};
+    ghost use Rattle.binary_heap.specs.Slots.{cell_cleared};
     ghost use Rattle.event_queue.specs.Queues.{Empty};
     ghost use Rattle.binary_heap.specs.Meanings.{heap_meaning};
 
-    // An empty queue in the cells, whatever they hold. It is the one call that goes over all cells.
+    /// An empty queue in the first 64 of the cells, whatever they hold: it takes the key out of each, and leaves
+    /// the others as they are. It is the one call that goes over all cells.
     pub fn new(cells: &'a mut [Cell<K>]) -> BinaryHeap<'a, K>
-        ensures empty { Empty (heap_meaning K.Key.before) result }
-        ensures capacity { (heap_meaning K.Key.before).capacity result ≡ min (length cells.old) 64 }
+        ensures empty { Empty (heap_meaning K.before) result }
+        ensures capacity { (heap_meaning K.before).capacity result ≡ min (length cells.old) 64 }
         ensures lender { result.cells.ghost_name ≡ cells.entry.ghost_name }
+        ensures cells { take 64 result.cells.now ≡ map cell_cleared (take 64 cells.old) }
         ensures past { drop 64 result.cells.now ≡ drop 64 cells.old }
     {
         clear_front(cells);
@@ -41,22 +44,26 @@ impl<'a, K: Key> BinaryHeap<'a, K> {
 
 // The cells are named before each call: a slice in a field is not lent again as it stands.
 impl<'a, K: Key> Queue for BinaryHeap<'a, K> {
-    ghost use Rattle.binary_heap.specs.Meanings.{heap_meaning};
+    ghost use Rattle.std.specs.Prelude.{◌≡◌, IfOk, IfNone};
+    ghost use Rattle.event_queue.specs.Queues.{Dropped, Took};
+    ghost use Rattle.binary_heap.specs.Meanings.{heap_meaning, in_no_cells};
 
     type Key = K;
 
-    ghost means = { heap_meaning K.Key.before };
+    ghost means = { heap_meaning K.before };
 
-    fn capacity(&self) -> usize {
-        capacity(self.cells)
+    fn capacity(&mut self) -> usize {
+        let cells = &mut *self.cells;
+        capacity(cells)
     }
 
-    fn size(&self) -> usize {
+    fn size(&mut self) -> usize {
         self.size
     }
 
-    fn held(&self, ticket: usize) -> Result<Option<K>, Refusal> {
-        held(self.cells, ticket)
+    fn held(&mut self, ticket: usize) -> Result<Option<K>, Refusal> {
+        let cells = &mut *self.cells;
+        held(cells, ticket)
     }
 
     // The calls that change something are written for each heap: they carry a size along and differ in what
@@ -70,7 +77,12 @@ impl<'a, K: Key> Queue for BinaryHeap<'a, K> {
         Ok(())
     }
 
-    fn drop(&mut self, ticket: usize) -> Result<Option<K>, Refusal> {
+    // Beyond the trait, a `drop` or a `take` that answers none leaves the heap exactly as it was, sound or not.
+    fn drop(&mut self, ticket: usize) -> Result<Option<K>, Refusal>
+        ensures after { Dropped (heap_meaning K.before) self.old self.new ticket result }
+        ensures keeps { (heap_meaning K.before).keeps self.old self.new }
+        ensures none { IfOk result (λ key. IfNone key (self.new ≡ self.old)) }
+    {
         let cells = &mut *self.cells;
         // a none inside an `Ok` is answered by hand, since `?` passes on a refusal
         let Some(key) = held(cells, ticket)? else {
@@ -90,7 +102,11 @@ impl<'a, K: Key> Queue for BinaryHeap<'a, K> {
         Ok(())
     }
 
-    fn take(&mut self, limit: K) -> Option<(usize, K)> {
+    fn take(&mut self, limit: K) -> Option<(usize, K)>
+        ensures after { Took (heap_meaning K.before) K.before self.old self.new limit result }
+        ensures keeps { (heap_meaning K.before).keeps self.old self.new }
+        ensures none { IfNone result (self.new ≡ self.old) }
+    {
         let cells = &mut *self.cells;
         let first = first(cells, self.size)?;
         if limit.is_before(&first.1) {
@@ -99,4 +115,6 @@ impl<'a, K: Key> Queue for BinaryHeap<'a, K> {
         self.size = remove_front(cells, self.size, first.0);
         Some(first)
     }
+
+    ghost inhabited = { in_no_cells K.before };
 }

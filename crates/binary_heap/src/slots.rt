@@ -1,10 +1,19 @@
 ghost use Rattle.std.specs.Prelude.{◌≡◌, ◌<◌, length, Some};
-ghost use Rattle.binary_heap.specs.Slots.{columns, slot_of, key_at, Reads, with_key, with_entry, with_slot, seated};
+ghost use Rattle.binary_heap.specs.Slots.{
+  columns,
+  slot_of,
+  key_at,
+  Reads,
+  with_key,
+  with_entry,
+  with_slot,
+  seated,
+};
 
 use crate::cell::Cell;
 use event_queue::key::Key;
 
-// The slot of a ticket.
+/// The slot of a ticket.
 #[tactic(auto, using(crate::proofs::Columns::slot_read))]
 pub fn slot_of<K: Key>(cells: &[Cell<K>], ticket: usize) -> usize
     requires { ticket < length cells.now }
@@ -13,14 +22,14 @@ pub fn slot_of<K: Key>(cells: &[Cell<K>], ticket: usize) -> usize
     cells[ticket].slot
 }
 
-// What stands in a slot: a ticket and the key that it holds.
+/// What stands in a slot: a ticket and the key that it holds.
 #[derive(Clone, Copy)]
 pub struct Entry<K> {
     pub ticket: u32,
     pub key: K,
 }
 
-// Reads the key in a slot.
+/// Reads the key in a slot.
 #[tactic(auto, using(crate::proofs::Columns::slot_key_read))]
 pub fn key_at<K: Key>(cells: &[Cell<K>], slot: usize) -> K
     requires { slot < length cells.now }
@@ -29,7 +38,7 @@ pub fn key_at<K: Key>(cells: &[Cell<K>], slot: usize) -> K
     cells[slot].slot_key
 }
 
-// Reads what stands in a slot.
+/// Reads what stands in a slot.
 #[tactic(auto, using(crate::proofs::Columns::ticket_read))]
 pub fn entry_at<K: Key>(cells: &[Cell<K>], slot: usize) -> Entry<K>
     requires { slot < length cells.now }
@@ -43,7 +52,7 @@ pub fn entry_at<K: Key>(cells: &[Cell<K>], slot: usize) -> Entry<K>
 
 // Each heap has a `set_key` of its own, which promises that the other columns of its cells stay.
 
-// Gives a ticket a key, or none.
+/// Gives a ticket a key, or none.
 #[tactic(auto, using(crate::proofs::Columns::key_set))]
 pub fn set_key<K: Key>(cells: &mut [Cell<K>], ticket: usize, key: Option<K>)
     requires { ticket < length cells.old }
@@ -72,7 +81,7 @@ fn set_slot<K: Key>(cells: &mut [Cell<K>], ticket: usize, slot: usize)
     cells[ticket].slot = slot;
 }
 
-// Puts a ticket with its key into a slot.
+/// Puts a ticket with its key into a slot.
 pub fn seat<K: Key>(cells: &mut [Cell<K>], slot: usize, ticket: u32, key: K)
     requires slot { slot < length cells.old }
     requires ticket { ticket < length cells.old }

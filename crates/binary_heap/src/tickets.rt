@@ -21,7 +21,7 @@ fn insert<K: Key>(cells: &mut [Cell<K>], size: usize, ticket: usize, key: K)
     requires ticket { ticket < length cells.old }
     requires number { ticket < 64 }
     requires within { Within (columns cells.old) size }
-    ensures inserts { Inserts K.Key.before cells.old cells.new size (size + 1) ticket key }
+    ensures inserts { Inserts K.before cells.old cells.new size (size + 1) ticket key }
     ensures within { Within (columns cells.new) (size + 1) }
 {
     set_key(cells, ticket, Some(key));
@@ -37,7 +37,7 @@ fn remove<K: Key>(cells: &mut [Cell<K>], size: usize, ticket: usize)
     requires some { 0 < size }
     requires ticket { ticket < length cells.old }
     requires within { Within (columns cells.old) size }
-    ensures removes { Removes K.Key.before cells.old cells.new size (size - 1) ticket }
+    ensures removes { Removes K.before cells.old cells.new size (size - 1) ticket }
     ensures within { Within (columns cells.new) size }
 {
     let slot = slot_of(cells, ticket);
@@ -58,7 +58,7 @@ fn change<K: Key>(cells: &mut [Cell<K>], size: usize, ticket: usize, key: K)
     requires ticket { ticket < length cells.old }
     requires number { ticket < 64 }
     requires within { Within (columns cells.old) size }
-    ensures changes { Changes K.Key.before cells.old cells.new size ticket key }
+    ensures changes { Changes K.before cells.old cells.new size ticket key }
     ensures within { Within (columns cells.new) size }
 {
     let slot = slot_of(cells, ticket);
@@ -68,11 +68,12 @@ fn change<K: Key>(cells: &mut [Cell<K>], size: usize, ticket: usize, key: K)
     }
 }
 
-// A ticket whose key has none before it, with the key, in a heap of `size` tickets: that of the first slot.
+/// A ticket whose key has none before it, with the key, in a heap of `size` tickets: that of the first slot.
 pub fn first<K: Key>(cells: &[Cell<K>], size: usize) -> Option<(usize, K)>
     requires few { size ≤ min (length cells.now) 64 }
     requires within { Within (columns (take 64 cells.now)) size }
-    ensures earliest { Sound K.Key.before (take 64 cells.now) size → Earliest cell_key K.Key.before (take 64 cells.now) result }
+    ensures earliest { Sound K.before (take 64 cells.now) size
+        → Earliest cell_key K.before (take 64 cells.now) result }
     ensures within { IfSome result (λ found. found.0 < min (length cells.now) 64) }
     ensures some { IfSome result (λ found. 0 < size) }
 {
@@ -83,12 +84,14 @@ pub fn first<K: Key>(cells: &[Cell<K>], size: usize) -> Option<(usize, K)>
     Some((entry.ticket as usize, entry.key))
 }
 
-// The same as `insert`, in the first 64 cells. It answers the new size.
+/// Gives a key to a ticket that holds none, in the heap of `size` tickets in the first 64 cells, and answers
+/// how many it has then.
 pub fn insert_front<K: Key>(cells: &mut [Cell<K>], size: usize, ticket: usize, key: K) -> usize
     requires few { size ≤ min (length cells.old) 64 }
     requires ticket { ticket < min (length cells.old) 64 }
     requires within { Within (columns (take 64 cells.old)) size }
-    ensures inserts { Inserts K.Key.before (take 64 cells.old) (take 64 cells.new) size result ticket key }
+    ensures inserts { Inserts K.before
+        (take 64 cells.old) (take 64 cells.new) size result ticket key }
     ensures few { result ≤ min (length cells.new) 64 }
     ensures more { size ≤ result }
     ensures within { Within (columns (take 64 cells.new)) result }
@@ -102,12 +105,13 @@ pub fn insert_front<K: Key>(cells: &mut [Cell<K>], size: usize, ticket: usize, k
     size + 1
 }
 
-// The same as `remove`, in the first 64 cells. It answers the new size.
+/// Takes the key of a ticket away, in the heap of `size` tickets in the first 64 cells, and answers how many
+/// it has then.
 pub fn remove_front<K: Key>(cells: &mut [Cell<K>], size: usize, ticket: usize) -> usize
     requires few { size ≤ min (length cells.old) 64 }
     requires ticket { ticket < min (length cells.old) 64 }
     requires within { Within (columns (take 64 cells.old)) size }
-    ensures removes { Removes K.Key.before (take 64 cells.old) (take 64 cells.new) size result ticket }
+    ensures removes { Removes K.before (take 64 cells.old) (take 64 cells.new) size result ticket }
     ensures few { size ≤ min (length cells.new) 64 }
     ensures fewer { result ≤ size }
     ensures within { Within (columns (take 64 cells.new)) size }
@@ -121,12 +125,12 @@ pub fn remove_front<K: Key>(cells: &mut [Cell<K>], size: usize, ticket: usize) -
     size - 1
 }
 
-// The same as `change`, in the first 64 cells.
+/// Gives another key to a ticket that holds one, in the heap of `size` tickets in the first 64 cells.
 pub fn change_front<K: Key>(cells: &mut [Cell<K>], size: usize, ticket: usize, key: K)
     requires few { size ≤ min (length cells.old) 64 }
     requires ticket { ticket < min (length cells.old) 64 }
     requires within { Within (columns (take 64 cells.old)) size }
-    ensures changes { Changes K.Key.before (take 64 cells.old) (take 64 cells.new) size ticket key }
+    ensures changes { Changes K.before (take 64 cells.old) (take 64 cells.new) size ticket key }
     ensures few { size ≤ min (length cells.new) 64 }
     ensures within { Within (columns (take 64 cells.new)) size }
     ensures past { drop 64 cells.new ≡ drop 64 cells.old }

@@ -1,5 +1,5 @@
 -- An advance: why it is refused, the rows that it writes, and the total after it.
-use Rattle.std.proofs.Common.{◌≡◌, ℕ, ◌+◌, ◌-◌, ◌*◌, ◌^◌, ◌<◌, ◌≤◌, true, false, cond, ◌⊎◌, inl, inr, List, [], ◌∷◌, ◌++◌, length, take, get_or, min, ◌==◌, nat_lt, Some, None, sym, refl, ap, ◌∙◌, subst, ⊎_elim, arith}
+use Rattle.std.proofs.Common.{◌≡◌, ℕ, ◌+◌, ◌-◌, ◌*◌, ◌^◌, ◌<◌, ◌≤◌, Bool, true, false, cond, is_some, ◌⊎◌, inl, inr, List, [], ◌∷◌, ◌++◌, length, take, get_or, min, ◌==◌, nat_lt, Some, None, Ok, Err, Result, IsErrAnd, sym, refl, ap, ◌∙◌, subst, ⊎_elim, arith}
 use Rattle.std.proofs.lemmas.Bool.{cases_Bool, cases_lt, cond-true, cond-false, eqb-true, eqb-false}
 use Rattle.std.proofs.lemmas.Bool.Decides.{nat_tests}
 use Rattle.std.proofs.lemmas.Grind.{common_steps}
@@ -7,46 +7,58 @@ use Rattle.std.proofs.lemmas.List.{get_or_append_left, length_push}
 use Rattle.std.proofs.Math.Seq.{get_or-append_seam}
 use Rattle.std.specs.List.{AllByRecursion}
 use Rattle.event_queue.specs.Queues as queues
+use Rattle.event_queue.specs.Refusals.{◌when◌, topmost}
 use Rattle.fairway.specs.Instants.{stamp_of, instant_refusal}
-use Rattle.fairway.specs.Stamps.{time_of, earlier, BelowOne}
+use Rattle.fairway.specs.Stamps.{earlier}
 use Rattle.fairway.specs.StampsLemmas.{late_from, early_from}
 use Rattle.fairway.specs.declared.instant.Instant.{Instant}
-use Rattle.fairway.specs.declared.refusal.Refusal.{Refusal as NoInstant}
 use Rattle.fairway.specs.declared.stamp.Stamp.{Stamp}
 use Rattle.kinetic.specs.Structures as structures
 use Rattle.kinetic.specs.Structures.{Certified, NoneDue}
-use Rattle.board.specs.Boards.{Right, Bounded, begun, refusal}
+use Rattle.board.specs.Boards.{Right, TotalBounded, begun, refusal}
 use Rattle.board.specs.Books.{goal}
-use Rattle.board.specs.Outcomes.{InTime, Moved, Passed}
-use Rattle.board.specs.Passings.{Arrived, Midway, Passings, RowRight, Written, row_of}
+use Rattle.board.specs.Outcomes.{InTime, Moved, Passed, Happened, advanced, rows_event}
+use Rattle.board.specs.Passings.{Arrived, Begins, Passings, RowRight, Written, row_of}
 use Rattle.board.specs.Passings.Passings.{none, more}
-use Rattle.board.specs.Tickets.{QueueKept}
+use Rattle.board.specs.Tickets.{Ticket, limit_of, QueueKept}
 use Rattle.board.specs.declared.board.Board.{Board}
 use Rattle.board.specs.declared.call.Call.TheVariants.{Advance}
 use Rattle.board.specs.declared.call.Row.{Row}
+use Rattle.board.specs.declared.refusal.Refusal.{Refusal}
 use Rattle.board.specs.declared.refusal.Refusal.TheVariants.{NoSuchInstant, Early, FewRows}
 use Rattle.fairway.proofs.Instants.{stamp_below}
 use Rattle.board.proofs.Meetings.{level_is}
 
 -- ---- refusals
-module _ {S Q : Type 0} (m : structures.Meaning S) (n : queues.Meaning Q Stamp) (b : Board S Q) (s a d lent : ℕ) where
-  pub no_instant : (e : NoInstant) → instant_refusal s a d ≡ Some e → refusal m n b (Advance s a d) lent ≡ Some NoSuchInstant
-  no_instant e h = rw h refl
+module _ {S Q : Type 0} (m : structures.Meaning S) (n : queues.Meaning Q Ticket) (b : Board S Q) (s a d : ℕ) where
+  pub too_early : (lent : ℕ) → instant_refusal s a d ≡ None → earlier (goal s a d) (stamp_of b.clock) ≡ true → refusal m n b (Advance s a d) lent ≡ Some Early
+  too_early lent h e = rw (h, e) refl
 
-  pub too_early : instant_refusal s a d ≡ None → earlier (goal s a d) (stamp_of b.clock) ≡ true → refusal m n b (Advance s a d) lent ≡ Some Early
-  too_early h e = rw (h, e) refl
-
-  pub too_few : instant_refusal s a d ≡ None → earlier (goal s a d) (stamp_of b.clock) ≡ false → lent < m.load b.structure → refusal m n b (Advance s a d) lent ≡ Some FewRows
-  too_few h e l = let t = less lent (m.load b.structure) l in rw (h, e, t) refl
+  pub too_few : (lent : ℕ) → instant_refusal s a d ≡ None → earlier (goal s a d) (stamp_of b.clock) ≡ false → lent < m.load b.structure → refusal m n b (Advance s a d) lent ≡ Some FewRows
+  too_few lent h e l = let t = less lent (m.load b.structure) l in rw (h, e, t) refl
     where
       less : (x y : ℕ) → x < y → nat_lt x y ≡ true
       less x y h = grind (arith, nat_tests)
 
-  pub advance_accepted : instant_refusal s a d ≡ None → earlier (goal s a d) (stamp_of b.clock) ≡ false → m.load b.structure ≤ lent → refusal m n b (Advance s a d) lent ≡ None
-  advance_accepted h e l = let t = enough lent (m.load b.structure) l in rw (h, e, t) refl
+  pub advance_accepted : (lent : ℕ) → instant_refusal s a d ≡ None → earlier (goal s a d) (stamp_of b.clock) ≡ false → m.load b.structure ≤ lent → refusal m n b (Advance s a d) lent ≡ None
+  advance_accepted lent h e l = let t = enough lent (m.load b.structure) l in rw (h, e, t) refl
     where
       enough : (x y : ℕ) → y ≤ x → nat_lt x y ≡ false
       enough x y h = grind (arith, nat_tests)
+
+  pub advances : (lent : ℕ) → refusal m n b (Advance s a d) lent ≡ None → (earlier (goal s a d) (stamp_of b.clock) ≡ false) × (m.load b.structure ≤ lent)
+  advances lent h = let k = neither (is_some (instant_refusal s a d)) (earlier (goal s a d) (stamp_of b.clock)) (nat_lt lent (m.load b.structure)) h in (k.0, enough lent (m.load b.structure) k.1)
+    where
+      neither : (x y z : Bool) → topmost (NoSuchInstant when x ∷ Early when y ∷ FewRows when z ∷ []) ≡ None → (y ≡ false) × (z ≡ false)
+      neither x y z h = (grind (arith, nat_tests), grind (arith, nat_tests))
+
+      enough : (x y : ℕ) → nat_lt x y ≡ false → y ≤ x
+      enough x y h = grind (arith, nat_tests)
+
+  -- what the check found and `?` handed on
+  pub refused : (rows : List Row) (e : Refusal) (answer : Result ℕ Refusal) → refusal m n b (Advance s a d) (length rows) ≡ Some e → IsErrAnd answer (λ own. own ≡ e) → Happened m n b (rows_event (Advance s a d) (advanced answer) rows) b
+  refused rows e (Ok k) h q = absurd q
+  refused rows e (Err own) h q = (h ∙ ap Some (sym q), refl)
 
 -- ---- the rows of a series of mends
 all_more : {X : Type 0} (P : X → Type 0) (xs : List X) (x : X) → AllByRecursion P xs → P x → AllByRecursion P (xs ++ (x ∷ []))
@@ -133,7 +145,7 @@ begun_after c i h =
     none_less : (m d x : ℕ) → m ≡ 0 → x < m * d → ⊥
     none_less m d x z h = let k : x < 0 * d = subst (λ y. x < y * d) z h in omega (arith, k)
 
-bounded_on : (c i : Instant) (t l l' k : ℕ) → Bounded c t l → l' + k ≤ l → earlier (stamp_of i) (stamp_of c) ≡ false → (0 < k → earlier (stamp_of c) (stamp_of i) ≡ true) → Bounded i (t + k) l'
+bounded_on : (c i : Instant) (t l l' k : ℕ) → TotalBounded c t l → l' + k ≤ l → earlier (stamp_of i) (stamp_of c) ≡ false → (0 < k → earlier (stamp_of c) (stamp_of i) ≡ true) → TotalBounded i (t + k) l'
 bounded_on c i t l l' k b few late strict =
     let s = b.so_far in
     let n = b.to_come in
@@ -145,7 +157,7 @@ bounded_on c i t l l' k b few late strict =
     }
 
 -- a sum within its bound is not cut off
-exact_sum : (c : Instant) (t l l' k : ℕ) → Bounded c t l → l' + k ≤ l → min (t + k) (2 ^ 64 - 1) ≡ t + k
+exact_sum : (c : Instant) (t l l' k : ℕ) → TotalBounded c t l → l' + k ≤ l → min (t + k) (2 ^ 64 - 1) ≡ t + k
 exact_sum c t l l' k b few =
     let n = b.to_come in
     let z : c.seconds ≤ 16777216 = c.bounded in
@@ -155,26 +167,33 @@ exact_sum c t l l' k b few =
     below x h = grind (arith, nat_tests)
 
 -- ---- what an advance leaves
-module _ {S Q : Type 0} (m : structures.Meaning S) (n : queues.Meaning Q Stamp) (certified : Certified m) where
-  -- what the mends up to a limit leave, of a structure that stands at some instant with its tickets in the queue
-  abbrev pub Arrives : Stamp → S → S → Q → Q → ℕ → List Row → List Row → Type 0
-  Arrives limit s s' q q' k rows rows' =
-      (u : Stamp) → Midway m n u s q → NoneDue m (time_of u) s → m.load s ≤ length rows → BelowOne limit → earlier limit u ≡ false → Arrived m n u limit s s' q' k rows'
+module _ {S Q : Type 0} (m : structures.Meaning S) (n : queues.Meaning Q Ticket) (certified : Certified m) where
+  -- what the mends up to a limit leave, of a structure with its queue
+  abbrev pub Arrives : Ticket → S → S → Q → Q → ℕ → List Row → List Row → Type 0
+  Arrives limit s s' q q' k rows rows' = (u to : Stamp) → Begins m n u to limit s q (length rows) → Arrived m n u to s s' q' k rows'
 
-  passes : (b b' : Board S Q) (k : ℕ) (rows rows' : List Row) → earlier (stamp_of b'.clock) (stamp_of b.clock) ≡ false → m.load b.structure ≤ length rows →
-      Arrives (stamp_of b'.clock) b.structure b'.structure b.queue b'.queue k rows rows' → Written k rows rows' → b'.total ≡ min (b.total + k) (2 ^ 64 - 1) → Right m n b →
+  passes : (b b' : Board S Q) (limit : Ticket) (k : ℕ) (rows rows' : List Row) → limit ≡ limit_of (stamp_of b'.clock) → earlier (stamp_of b'.clock) (stamp_of b.clock) ≡ false → m.load b.structure ≤ length rows →
+      Arrives limit b.structure b'.structure b.queue b'.queue k rows rows' → Written k rows rows' → b'.total ≡ min (b.total + k) (2 ^ 64 - 1) → b'.capacity ≡ n.capacity b'.queue → Right m n b →
       Passed m n b b' (stamp_of b'.clock) k (take k rows')
-  passes b b' k rows rows' late enough arrived written total r =
+  passes b b' limit k rows rows' at late enough arrived written total cap r =
       let u = stamp_of b.clock in
-      let a = arrived u (record { below_one = stamp_below b.clock; sound = r.sound; room = r.room; stands = r.rests.0; tickets = r.tickets }) r.rests.1 enough (stamp_below b'.clock) late in
+      let a = arrived u (stamp_of b'.clock) (record {
+        midway = record { below_one = stamp_below b.clock; sound = r.sound; room = r.room; stands = r.rests.0; tickets = r.tickets };
+        none_due = r.rests.1;
+        enough = enough;
+        below_one = stamp_below b'.clock;
+        onward = late;
+        limit_is = at;
+      }) in
       let t : b'.total ≡ b.total + k = total ∙ exact_sum b.clock b.total (m.load b.structure) (m.load b'.structure) k r.total a.load in
       record {
         right = record {
           sound = a.midway.sound;
+          capacity = cap;
           room = a.midway.room;
           rests = (a.midway.stands, a.none_due);
           tickets = a.midway.tickets;
-          total = subst (λ x. Bounded b'.clock x (m.load b'.structure)) (sym t) (bounded_on b.clock b'.clock b.total (m.load b.structure) (m.load b'.structure) k r.total a.load late a.strict);
+          total = subst (λ x. TotalBounded b'.clock x (m.load b'.structure)) (sym t) (bounded_on b.clock b'.clock b.total (m.load b.structure) (m.load b'.structure) k r.total a.load late a.strict);
         };
         total = t;
         counted = let w = written.within in let z = written.size in taken k rows' (omega (arith, w, z));
@@ -188,17 +207,17 @@ module _ {S Q : Type 0} (m : structures.Meaning S) (n : queues.Meaning Q Stamp) 
       taken : (k : ℕ) (rows : List Row) → k ≤ length rows → length (take k rows) ≡ k
       taken k rows h = grind (arith, common_steps)
 
-  pub moves : (b b' : Board S Q) (to limit : Stamp) (k : ℕ) (rows rows' : List Row) → limit ≡ stamp_of b'.clock → stamp_of b'.clock ≡ to → earlier limit (stamp_of b.clock) ≡ false → m.load b.structure ≤ length rows →
-      Arrives limit b.structure b'.structure b.queue b'.queue k rows rows' → Written k rows rows' → ((v : ℕ) → m.roster b'.structure v ≡ m.roster b.structure v) → QueueKept n b.queue b'.queue → b'.total ≡ min (b.total + k) (2 ^ 64 - 1) →
+  pub moves : (b b' : Board S Q) (to : Stamp) (limit : Ticket) (k : ℕ) (rows rows' : List Row) → limit ≡ limit_of (stamp_of b'.clock) → stamp_of b'.clock ≡ to → earlier to (stamp_of b.clock) ≡ false → m.load b.structure ≤ length rows →
+      Arrives limit b.structure b'.structure b.queue b'.queue k rows rows' → Written k rows rows' → ((v : ℕ) → m.roster b'.structure v ≡ m.roster b.structure v) → QueueKept n b.queue b'.queue → b'.capacity ≡ b.capacity → b'.total ≡ min (b.total + k) (2 ^ 64 - 1) →
       Moved m n b b' to k (take k rows')
-  moves b b' to limit k rows rows' at goal late enough arrived written roster kept total =
-      let late' = subst (λ l. earlier l (stamp_of b.clock) ≡ false) at late in
-      let arrived' = subst (λ l. Arrives l b.structure b'.structure b.queue b'.queue k rows rows') at arrived in
+  moves b b' to limit k rows rows' at goal late enough arrived written roster kept cap total =
+      let late' = subst (λ l. earlier l (stamp_of b.clock) ≡ false) (sym goal) late in
       record {
-        onward = subst (λ l. earlier l (stamp_of b.clock) ≡ false) goal late';
+        onward = late;
         roster = roster;
         clock = goal;
+        capacity = cap;
         added = total;
         queue = kept;
-        passed = λ r. subst (λ l. Passed m n b b' l k (take k rows')) goal (passes b b' k rows rows' late' enough arrived' written total r);
+        passed = λ r. subst (λ l. Passed m n b b' l k (take k rows')) goal (passes b b' limit k rows rows' at late' enough arrived written total (cap ∙ r.capacity ∙ sym (kept.capacity r.sound)) r);
       }

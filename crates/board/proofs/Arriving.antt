@@ -6,7 +6,6 @@ use Rattle.event_queue.specs.Queues as queues
 use Rattle.fairway.specs.Times.{◌≤ᵗ◌}
 use Rattle.fairway.specs.Courses.{faster}
 use Rattle.fairway.specs.Meetings.{level}
-use Rattle.fairway.specs.Orders.{pair}
 use Rattle.fairway.specs.Stamps.{time_of, earlier, BelowOne}
 use Rattle.fairway.specs.StampsLemmas.{proper, not_later, sooner, carries, asymmetric}
 use Rattle.fairway.specs.Standing.{NotLevelBefore}
@@ -16,6 +15,7 @@ use Rattle.fairway.proofs.Advance.{due_faster}
 use Rattle.fairway.proofs.Meetings.{not_level_yet}
 use Rattle.kinetic.specs.Structures as structures
 use Rattle.kinetic.specs.Structures.{InOrder, Lasting, NoneDue}
+use Rattle.board.specs.Tickets.{Ticket}
 use Rattle.board.specs.Passings.{Midway, NextMend, Passings, Arrived, Written, row_of}
 use Rattle.board.specs.Passings.Passings.{none, more}
 use Rattle.board.specs.declared.call.Row.{Row}
@@ -32,7 +32,7 @@ same_row : (row : Row) (r f : Course) → row.rear ≡ r.number → row.front �
 unfolding row_by
 same_row row r f a b = ap (λ z. row_by row.at z f.number) (sym a) ∙ ap (row_by row.at row.rear) (sym b)
 
-module _ {S Q : Type 0} (m : structures.Meaning S) (n : queues.Meaning Q Stamp) where
+module _ {S Q : Type 0} (m : structures.Meaning S) (n : queues.Meaning Q Ticket) where
   -- so many mends were made since s0 stood at u, with these rows
   pub record Way (u limit : Stamp) (s0 s : S) (q : Q) (count : ℕ) (rows : List Row) : Type 0 where
     pub now : Stamp
@@ -66,12 +66,12 @@ module _ {S Q : Type 0} (m : structures.Meaning S) (n : queues.Meaning Q Stamp) 
   module _ (ordered : InOrder m) (lasting : Lasting m) where
     -- none is left up to the limit
     pub arrives : (u limit : Stamp) (s0 s : S) (q q' : Q) (k : ℕ) (rows : List Row) → (w : Way u limit s0 s q k (take k rows)) → BelowOne limit → Midway m n w.now s q' →
-        ((i : ℕ) (r f : Course) (at : Stamp) → m.certificate s i ≡ Some (pair r f) → level r f ≡ Some at → earlier limit at ≡ true) → Arrived m n u limit s0 s q' k rows
+        ((i : ℕ) (r f : Course) (at : Stamp) → m.certificate s i ≡ Some (r, f) → level r f ≡ Some at → earlier limit at ≡ true) → Arrived m n u limit s0 s q' k rows
     arrives u limit s0 s q q' k rows w below mid left =
         let late : time_of w.now ≤ᵗ time_of limit = not_later w.now limit mid.below_one w.reached in
-        let leveled : (i : ℕ) (r f : Course) → m.certificate s i ≡ Some (pair r f) → faster r f ≡ true → (at : Stamp) × (level r f ≡ Some at) =
-        λ i r f c F. has_level (time_of w.now) (proper w.now) r f F (not_before (time_of w.now) r f (ordered (time_of w.now) s mid.stands i r f c)) in
-        let not_yet : (i : ℕ) (r f : Course) → m.certificate s i ≡ Some (pair r f) → NotLevelBefore (time_of limit) r f =
+        let leveled : (i : ℕ) (r f : Course) → m.certificate s i ≡ Some (r, f) → faster r f ≡ true → (at : Stamp) × (level r f ≡ Some at) =
+        λ i r f c F. has_level (time_of w.now) (proper w.now) r f F (not_before (time_of w.now) r f (ordered (time_of w.now) s (proper w.now) mid.stands i r f c)) in
+        let not_yet : (i : ℕ) (r f : Course) → m.certificate s i ≡ Some (r, f) → NotLevelBefore (time_of limit) r f =
         λ i r f c F. let l = leveled i r f c F in not_level_yet r f l.0 l.1 (time_of limit) (not_later limit l.0 below (asymmetric limit l.0 (left i r f l.0 c l.1))) F in
         record {
           midway = record {

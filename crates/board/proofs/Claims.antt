@@ -8,9 +8,10 @@ use Rattle.std.proofs.lemmas.List.Sorted.{IsPermutation-map, length_permutation}
 use Rattle.std.proofs.lemmas.List.Sums.{sum_by-append}
 use Rattle.event_queue.specs.Queues as queues
 use Rattle.fairway.specs.Instants.{stamp_of}
-use Rattle.fairway.specs.Times.{Time, ◌≤ᵗ◌, ◌<ᵗ◌}
+use Rattle.fairway.specs.Times.{Time, Proper, ◌≤ᵗ◌, ◌<ᵗ◌}
 use Rattle.fairway.specs.Courses.{Due}
-use Rattle.fairway.specs.Orders.{Apart, Exchange, Mends, order, pair, turned, is_pair}
+use Rattle.fairway.specs.Orders.{Apart, Same, Sorted, Exchange, Mends, Run, order, pair, turned, is_pair}
+use Rattle.fairway.specs.Orders.Run.{still, step}
 use Rattle.fairway.specs.Orders.Mends.{none as no_mends, mend}
 use Rattle.fairway.specs.Rosters.{course_of}
 use Rattle.fairway.specs.Stamps.{time_of, BelowOne}
@@ -24,19 +25,20 @@ use Rattle.fairway.proofs.Rosters.{same_from}
 use Rattle.fairway.proofs.Sorting.{order_is}
 use Rattle.kinetic.specs.Structures.{Rests, InOrder, InFront}
 use Rattle.sorted_list.specs.Laws.{ordered, rests_sorted, front}
-use Rattle.sorted_list.specs.Questions.{means, courses_of, InOrder as ListInOrder}
+use Rattle.sorted_list.specs.Questions.{means, courses_of, CoursesAnswer}
 use Rattle.sorted_list.specs.RostersLemmas.{well_apart}
 use Rattle.sorted_list.specs.declared.list.SortedList.{SortedList}
 use Rattle.board.specs.Books.{Log, book, goal}
 use Rattle.board.specs.Boards.{Right}
-use Rattle.board.specs.Claims.{row_at, pair_row, names, Exact, ExactCall, ExactLog, AsListed}
-use Rattle.board.specs.History.{Past, Throughout}
+use Rattle.board.specs.Claims.{row_at, pair_row, names, Exact, ExactCall, ExactLog, IsOrderOf, AsListed, PerformedOnList}
+use Rattle.board.specs.History.{Past}
 use Rattle.board.specs.History.Past.{then}
-use Rattle.board.specs.Lines.{Performed, log_of}
+use Rattle.board.specs.Lines.{Performed}
 use Rattle.board.specs.ListQuestions.{OrderAnswer}
 use Rattle.board.specs.Outcomes.{Moved, Comes}
 use Rattle.board.specs.Passings.{Passings, RowRight, row_of}
 use Rattle.board.specs.Passings.Passings.{none, more}
+use Rattle.board.specs.Tickets.{Ticket}
 use Rattle.board.specs.declared.board.Board.{Board}
 use Rattle.board.specs.declared.call.Call.{Call}
 use Rattle.board.specs.declared.call.Call.TheVariants.{Open, Enter, Leave, Steer, Advance}
@@ -48,14 +50,14 @@ use Rattle.board.proofs.Meetings.{level_is}
 use Rattle.board.specs.Reckoning.{mends_by_book, outcome_by, outcome_by_book, OutcomesByBook}
 use Rattle.board.proofs.Reckoning.{refusals}
 use Rattle.board.proofs.Pasts.{Kept, right_of, kept_of, as_booked}
-use Rattle.board.proofs.Throughout.{throughout_of}
+use Rattle.board.proofs.Throughout.{throughout_of, every_of}
 
 -- ---- the laws of the list
 list_ordered : InOrder means
-list_ordered t s st = ordered (courses_of s) t st
+list_ordered t s p st = ordered (courses_of s) t st
 
 list_leads : InFront means
-list_leads t s r = front t (courses_of s) s.sound (rests_sorted (courses_of s) t r.0 r.1)
+list_leads t s p r = front t (courses_of s) s.sound (rests_sorted (courses_of s) t r.0 r.1)
 
 -- at rest it is the order of every roster that looks up alike
 list_order : (t : Stamp) (s : SortedList) (roster : List Course) → Rests means (time_of t) s → Apart roster → ((v : ℕ) → course_of (courses_of s) v ≡ course_of roster v) → courses_of s ≡ order (time_of t) roster
@@ -63,20 +65,42 @@ list_order t s roster r apart same =
     let xs = courses_of s in
     (order_is (time_of t) (proper t) roster apart).only xs (rests_sorted xs (time_of t) r.0 r.1) (same_from xs roster (well_apart xs s.sound) apart same)
 
+-- the order that insertion makes is the one list from rear to front with the vessels of the roster
+pub is_order_of : (t : Time) → Proper t → (roster : List Course) → Apart roster → IsOrderOf t roster (order t roster)
+is_order_of t p roster apart =
+    let o = order_is t p roster apart in
+    record { sorted = o.sorted; same = o.same; only = o.only }
+
+-- and so a list that is such
+pub by_insertion : (t : Time) → Proper t → (roster xs : List Course) → Apart roster → IsOrderOf t roster xs → xs ≡ order t roster
+by_insertion t p roster xs apart h = (order_is t p roster apart).only xs h.sorted h.same
+
+-- every list of the roster's vessels from rear to front is its order: so between any two, no run has fewer steps
+fewest_between : (t u : Time) → Proper t → Proper u → (roster : List Course) → Apart roster → (before after : List Course) (steps : ℕ) → Sorted t before → Same before roster → Sorted u after → Same after roster → Run steps before after → length (turned t u roster) ≤ steps
+fewest_between t u pt pu roster apart before after steps sb mb sa ma run =
+    fewest t u pt pu roster apart steps
+    (subst (λ xs. Run steps xs (order u roster)) ((order_is t pt roster apart).only before sb mb)
+    (subst (λ ys. Run steps before ys) ((order_is u pu roster apart).only after sa ma) run))
+
 -- ---- a series of mends
 -- one mend more, at the end
 mends_more : {t u : Time} {xs ys zs : List Course} {ps : List Pair} {r f : Course} → Mends t u xs ps ys → (at : Time) → t <ᵗ at → at ≤ᵗ u → Due at r f → Exchange r f ys zs → Mends t u xs (ps ++ (pair r f ∷ [])) zs
 mends_more no_mends at a b d e = mend at a b d e no_mends
 mends_more (mend at' a' b' d' e' k) at a b d e = mend at' a' b' d' e' (mends_more k at a b d e)
 
+-- each mend is an exchange
+run_of : {t u : Time} {xs ys : List Course} {ps : List Pair} → Mends t u xs ps ys → Run (length ps) xs ys
+run_of no_mends = still
+run_of (mend at a b d e k) = step e (run_of k)
+
 -- the mends from a list to another, of the pairs that the rows name
-record Mended (from to : Stamp) (xs ys : List Course) (rows : List Row) : Type 0 where
+record RowMends (from to : Stamp) (xs ys : List Course) (rows : List Row) : Type 0 where
   pairs : List Pair
   mends : Mends (time_of from) (time_of to) xs pairs ys
   rows_are : map Some rows ≡ map pair_row pairs
   counts : (r f : Course) → count_by (names r f) rows ≡ count_by (is_pair r f) pairs
 
-mended : {t limit : Stamp} {s : SortedList} {u : Stamp} {rows : List Row} {s' : SortedList} → BelowOne t → Passings means t limit s u rows s' → Mended t limit (courses_of s) (courses_of s') rows
+mended : {t limit : Stamp} {s : SortedList} {u : Stamp} {rows : List Row} {s' : SortedList} → BelowOne t → Passings means t limit s u rows s' → RowMends t limit (courses_of s) (courses_of s') rows
 mended b none = record { pairs = []; mends = no_mends; rows_are = refl; counts = λ r f. refl }
 mended {t} {limit} b (more {rows = rows} i r f at p c e late onward within roster x) =
     let k = mended b p in
@@ -105,7 +129,7 @@ right_alike one other same from to row x =
     }
 
 -- ---- an advance of a board with a past
-module _ {Q : Type 0} (n : queues.Meaning Q Stamp) where
+module _ {Q : Type 0} (n : queues.Meaning Q Ticket) where
   exact : (b b' : Board SortedList Q) (log : Log) (to : Stamp) (mends : ℕ) (rows : List Row) → Right means n b → Kept means n b log → Moved means n b b' to mends rows → Exact (book log).clock to (book log).roster mends rows
   exact b b' log to mends rows right kept moved =
       let from = stamp_of b.clock in
@@ -117,10 +141,11 @@ module _ {Q : Type 0} (n : queues.Meaning Q Stamp) where
       let first = list_order from b.structure roster right.rests kept.apart kept.roster in
       let last = list_order to b'.structure roster (subst (λ z. Rests means (time_of z) b'.structure) moved.clock passed.right.rests) kept.apart (λ v. moved.roster v ∙ kept.roster v) in
       let m = mended below passed.passings in
-      let k = mends_turned t u (proper from) (proper to) roster (not_later from to below moved.onward) kept.apart m.pairs
-      (subst (λ xs. Mends t u xs m.pairs (order u roster)) first (subst (λ ys. Mends t u (courses_of b.structure) m.pairs ys) last m.mends)) in
-      let many : mends ≡ length (turned t u roster) =
-      sym passed.counted ∙ sym (length-map rows Some) ∙ ap length m.rows_are ∙ length-map m.pairs pair_row ∙ sym (length_permutation m.pairs (turned t u roster) k.0) in
+      let chain : Mends t u (order t roster) m.pairs (order u roster) =
+      subst (λ xs. Mends t u xs m.pairs (order u roster)) first (subst (λ ys. Mends t u (courses_of b.structure) m.pairs ys) last m.mends) in
+      let k = mends_turned t u (proper from) (proper to) roster (not_later from to below moved.onward) kept.apart m.pairs chain in
+      let count : mends ≡ length m.pairs = sym passed.counted ∙ sym (length-map rows Some) ∙ ap length m.rows_are ∙ length-map m.pairs pair_row in
+      let many : mends ≡ length (turned t u roster) = count ∙ sym (length_permutation m.pairs (turned t u roster) k.0) in
       subst (λ z. Exact z to roster mends rows) kept.clock
       (record {
         answer = many;
@@ -129,7 +154,11 @@ module _ {Q : Type 0} (n : queues.Meaning Q Stamp) where
             rows passed.each;
         once = λ r f hr hf. m.counts r f ∙ k.1 r f hr hf;
         in_time = passed.in_time;
-        fewest = λ steps run. subst (λ z. z ≤ steps) (sym many) (fewest t u (proper from) (proper to) roster kept.apart steps run);
+        run = λ before after sb mb sa ma.
+            subst (λ j. Run j before after) (sym count)
+            (subst (λ xs. Run (length m.pairs) xs after) (sym ((order_is t (proper from) roster kept.apart).only before sb mb))
+            (subst (λ ys. Run (length m.pairs) (order t roster) ys) (sym ((order_is u (proper to) roster kept.apart).only after sa ma)) (run_of chain)));
+        fewest = λ before after steps sb mb sa ma run. subst (λ z. z ≤ steps) (sym many) (fewest_between t u (proper from) (proper to) roster kept.apart before after steps sb mb sa ma run);
       })
 
   exact_call : (b b' : Board SortedList Q) (log : Log) (call : Call) (lent : ℕ) (o : Outcome) (rows : List Row) → Right means n b → Kept means n b log → Comes means n b call lent o rows b' → ExactCall (book log) call o rows
@@ -144,12 +173,18 @@ module _ {Q : Type 0} (n : queues.Meaning Q Stamp) where
   exact_log b [] p = tt
   exact_log b (e ∷ log) (then {b = a} p h) = (exact_call a b log e.call e.lent e.outcome e.rows (right_of means n a log p) (kept_of means n a log p) h, exact_log a log p)
 
-  -- the list is the book's order
+  -- the list is what insertion makes of the book
   pub in_order : (b : Board SortedList Q) (log : Log) → Past means n b log → courses_of b.structure ≡ order (time_of (book log).clock) (book log).roster
   in_order b log p =
       let k = kept_of means n b log p in
       let r = right_of means n b log p in
       list_order (book log).clock b.structure (book log).roster (subst (λ z. Rests means (time_of z) b.structure) k.clock r.rests) k.apart k.roster
+
+  -- and so the one list from rear to front at the book's clock with the book's vessels
+  pub order_of : (b : Board SortedList Q) (log : Log) → Past means n b log → IsOrderOf (time_of (book log).clock) (book log).roster (courses_of b.structure)
+  order_of b log p =
+      let t = time_of (book log).clock in
+      subst (IsOrderOf t (book log).roster) (sym (in_order b log p)) (is_order_of t (proper (book log).clock) (book log).roster (kept_of means n b log p).apart)
 
   -- ---- outcomes
   -- a call leaves the queue as large as it was
@@ -171,10 +206,10 @@ module _ {Q : Type 0} (n : queues.Meaning Q Stamp) where
 
   outcome_is : (b b' : Board SortedList Q) (log : Log) (call : Call) (lent : ℕ) (o : Outcome) (rows : List Row) → Past means n b log → Comes means n b call lent o rows b' → o ≡ outcome_by_book (n.capacity b.queue) lent (book log) call
   outcome_is b b' log call lent (Refused e) rows p h =
-      sym (ap (λ z. outcome_by z (mends_by_book (book log) call)) (sym (refusals n b log (kept_of means n b log p) (in_order b log p) call lent) ∙ h.0))
+      sym (ap (λ z. outcome_by z (mends_by_book (book log) call)) (sym (refusals n b log (kept_of means n b log p) (right_of means n b log p).capacity (in_order b log p) call lent) ∙ h.0))
   outcome_is b b' log call lent (Accepted k) rows p h =
       ap Accepted (mends_are b b' log call lent k rows (right_of means n b log p) (kept_of means n b log p) h)
-      ∙ sym (ap (λ z. outcome_by z (mends_by_book (book log) call)) (sym (refusals n b log (kept_of means n b log p) (in_order b log p) call lent) ∙ h.0))
+      ∙ sym (ap (λ z. outcome_by z (mends_by_book (book log) call)) (sym (refusals n b log (kept_of means n b log p) (right_of means n b log p).capacity (in_order b log p) call lent) ∙ h.0))
 
   outcomes_of : (b : Board SortedList Q) (log : Log) → Past means n b log → OutcomesByBook (n.capacity b.queue) log
   outcomes_of b [] p = tt
@@ -187,16 +222,21 @@ module _ {Q : Type 0} (n : queues.Meaning Q Stamp) where
   as_listed b log p =
       record {
         booked = as_booked means n list_ordered list_leads b log p;
-        in_order = in_order b log p;
+        in_order = order_of b log p;
         exact = exact_log b log p;
         outcomes = outcomes_of b log p;
-        refusals = refusals n b log (kept_of means n b log p) (in_order b log p);
+        refusals = refusals n b log (kept_of means n b log p) (right_of means n b log p).capacity (in_order b log p);
       }
 
   -- what the courses of the list are as an answer
-  pub order_answer : (b : Board SortedList Q) (xs : List Course) → ListInOrder b.structure xs → OrderAnswer n b xs
-  order_answer b xs h = record { value = h.value; booked = λ log p. h.value ∙ in_order b log p; listed = λ log p. as_listed b log p }
+  pub order_answer : (b : Board SortedList Q) (xs : List Course) → CoursesAnswer b.structure xs → OrderAnswer n b xs
+  order_answer b xs h = record { value = h.value; booked = λ log p. subst (IsOrderOf (time_of (book log).clock) (book log).roster) (sym h.value) (order_of b log p); listed = λ log p. as_listed b log p }
 
   -- it held at the opening and after each call of a list that was performed
-  pub throughout_listed : (b b' : Board SortedList Q) (lines lines' : List Line) (rows rows' : List Row) (used : ℕ) → Performed means n b b' lines lines' rows rows' used → n.sound b.queue → Throughout means n (AsListed n) b' (log_of lines' rows')
-  throughout_listed b b' lines lines' rows rows' used p s = throughout_of means n (AsListed n) as_listed b.queue p.opened b' (log_of lines' rows') s p.was_opened p.happened
+  pub performed_on_list : (b b' : Board SortedList Q) (lines lines' : List Line) (rows rows' : List Row) (used : ℕ) → Performed means n b b' lines lines' rows rows' used → PerformedOnList n b b' lines lines' rows rows' used
+  performed_on_list b b' lines lines' rows rows' used p =
+      record {
+        performed = p;
+        every = λ s. every_of means n (AsListed n) as_listed b.queue p.opened s p.was_opened;
+        listed = λ s. throughout_of means n (AsListed n) as_listed b.queue p.opened b' _ s p.was_opened p.happened;
+      }

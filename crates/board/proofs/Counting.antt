@@ -5,13 +5,13 @@ use Rattle.event_queue.specs.Queues as queues
 use Rattle.fairway.specs.Orders.{Apart, Holds}
 use Rattle.fairway.specs.Rosters.{course_of}
 use Rattle.fairway.specs.declared.course.Course.{Course}
-use Rattle.fairway.specs.declared.stamp.Stamp.{Stamp}
 use Rattle.fairway.proofs.Rosters.{absent, found}
 use Rattle.kinetic.specs.Structures as structures
 use Rattle.kinetic.specs.Structures.{Listed, vessels}
 use Rattle.kinetic.proofs.Counts.{vessels_none, vessels_more, vessels_same}
 use Rattle.board.specs.Books.{Log, book}
 use Rattle.board.specs.History.{Past}
+use Rattle.board.specs.Tickets.{Ticket}
 use Rattle.board.specs.declared.board.Board.{Board}
 use Rattle.board.proofs.Pasts.{kept_of}
 
@@ -25,7 +25,7 @@ listed (x ∷ xs) a h =
     omega (arith, ih, more)
 
 -- a board has as many vessels as its book
-pub aboard : {S Q : Type 0} (m : structures.Meaning S) (n : queues.Meaning Q Stamp) → Listed m → (b : Board S Q) (log : Log) → Past m n b log → vessels (m.roster b.structure) ≡ length (book log).roster
+pub aboard : {S Q : Type 0} (m : structures.Meaning S) (n : queues.Meaning Q Ticket) → Listed m → (b : Board S Q) (log : Log) → Past m n b log → vessels (m.roster b.structure) ≡ length (book log).roster
 aboard m n law b log p =
     let k = kept_of m n b log p in
     let xs = (book log).roster in

@@ -1,9 +1,11 @@
 pub mod Bases
+pub mod TicketLaws
 pub mod Renewing
 pub mod Meetings
 pub mod Pasts
 pub mod Changing
 pub mod Mending
+pub mod Unloaded
 pub mod Arriving
 pub mod Advancing
 pub mod Reckoning

@@ -69,7 +69,7 @@ pub not_earlier : (t u : Stamp) → BelowOne t → BelowOne u → time_of t ≤�
 not_earlier t u a b h = ⊎_elim (λ e. absurd (let k = (agrees u t b a).0 e in omega (arith, h, k))) (λ e. e) (cases_Bool (earlier u t))
 
 pub certainly_earlier : (t u : Stamp) → BelowOne t → BelowOne u → time_of t <ᵗ time_of u → earlier t u ≡ true
-certainly_earlier t u a b h = ⊎_elim (λ e. e) (λ e. absurd ((agrees t u a b).1 e h)) (cases_Bool (earlier t u))
+certainly_earlier t u a b h = (agrees t u a b).1 h
 
 -- a pair that is due at an instant has its level instant not after it
 pub due_level : (t : Time) → Proper t → (r f : Course) (s : Stamp) → level r f ≡ Some s → Due t r f → time_of s ≤ᵗ t

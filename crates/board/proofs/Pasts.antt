@@ -18,11 +18,11 @@ use Rattle.kinetic.specs.Structures as structures
 use Rattle.kinetic.specs.Structures.{InOrder, InFront}
 use Rattle.kinetic.proofs.Settling.{same_front}
 use Rattle.board.specs.Books.{Event, Log, book, sum_since, course_at, at_speed, start_stamp}
-use Rattle.board.specs.Boards.{Right, Bounded, refusal}
+use Rattle.board.specs.Boards.{Right, TotalBounded, refusal}
 use Rattle.board.specs.Outcomes.{Opened, Happened, Comes}
 use Rattle.board.specs.History.{Past, AsBooked, Adds}
 use Rattle.board.specs.History.Past.{opened, then}
-use Rattle.board.specs.Tickets.{ticket}
+use Rattle.board.specs.Tickets.{Ticket, instant_of, ticket}
 use Rattle.board.specs.declared.board.Board.{Board}
 use Rattle.board.specs.declared.call.Call.{Call}
 use Rattle.board.specs.declared.call.Call.TheVariants.{Open, Enter, Leave, Steer, Advance}
@@ -31,6 +31,7 @@ use Rattle.board.specs.declared.call.Outcome.TheVariants.{Accepted, Refused}
 use Rattle.board.specs.declared.call.Row.{Row}
 use Rattle.board.proofs.Meetings.{not_before, level_is, has_level}
 use Rattle.board.proofs.Renewing.{ticket_of}
+use Rattle.board.proofs.TicketLaws.{ticket_level, has_ticket}
 
 -- ---- the bound of a total
 bound_by : (s n t : ℕ) → s ≤ 16777216 → (s ≡ 16777216 → n ≡ 0) → t ≤ 2016 * cond (n == 0) s (s + 1) → t ≤ 33822867456
@@ -42,11 +43,11 @@ bound_by s n t b z h =
     ⊎_elim (λ l. omega (arith, l, k)) (λ l. absurd (eqb-false n 0 e (z (omega (arith, b, l))))) (cases_lt s 16777216))
     (cases_Bool (n == 0))
 
-bound_of : (i : Instant) (t l : ℕ) → Bounded i t l → t ≤ 33822867456
+bound_of : (i : Instant) (t l : ℕ) → TotalBounded i t l → t ≤ 33822867456
 bound_of i t l h = bound_by i.seconds i.numerator t i.bounded i.last h.so_far
 
 -- ---- the book after an event
-module _ {S Q : Type 0} (m : structures.Meaning S) (n : queues.Meaning Q Stamp) where
+module _ {S Q : Type 0} (m : structures.Meaning S) (n : queues.Meaning Q Ticket) where
   -- a right board is left right
   right_on : (b b' : Board S Q) (call : Call) (lent : ℕ) (o : Outcome) (rows : List Row) → Right m n b → Comes m n b call lent o rows b' → Right m n b'
   right_on b b' call lent (Refused e) rows r h = subst (Right m n) (sym h.1) r
@@ -151,15 +152,16 @@ module _ {S Q : Type 0} (m : structures.Meaning S) (n : queues.Meaning Q Stamp) 
           roster = k.roster;
           apart = k.apart;
           ticket_there = λ i rear front c F.
-              let l = has_level u (proper (stamp_of b.clock)) rear front F (not_before u rear front (ordered u b.structure r.rests.0 i rear front c)) in
-              let k = level_is rear front l.0 l.1 in
-              record { at = l.0; is_held = r.tickets i ∙ ap ticket c ∙ l.1; level_then = k.due.0; below_one = k.below_one; lowest_terms = k.lowest_terms };
+              let l = has_level u (proper (stamp_of b.clock)) rear front F (not_before u rear front (ordered u b.structure (proper (stamp_of b.clock)) r.rests.0 i rear front c)) in
+              let t = has_ticket rear front l.0 l.1 in
+              let k = level_is rear front (instant_of t.ticket_is) (ticket_level rear front t.ticket_is t.asked) in
+              record { ticket = t.ticket_is; is_held = r.tickets i ∙ ap ticket c ∙ t.asked; level_then = k.due.0; below_one = k.below_one; lowest_terms = k.lowest_terms };
           no_other = λ i s e.
               let t = ticket_of (m.certificate b.structure i) s (sym (r.tickets i) ∙ e) in
-              (t.rear, t.front, t.pair, (level_is t.rear t.front s t.meets).is_faster);
+              (t.rear, t.front, t.pair, (level_is t.rear t.front (instant_of s) t.meets).is_faster);
           total = k.total;
           total_bounded = bounded_of b log p;
-          foremost = subst (λ z. structures.Front (time_of z) (course_of (book log).roster) (m.foremost b.structure)) k.clock (same_front u _ _ (m.foremost b.structure) k.roster (leads u b.structure r.rests));
+          foremost = subst (λ z. structures.Front (time_of z) (course_of (book log).roster) (m.foremost b.structure)) k.clock (same_front u _ _ (m.foremost b.structure) k.roster (leads u b.structure (proper (stamp_of b.clock)) r.rests));
           right = r;
         }
 
@@ -179,19 +181,26 @@ starts i e =
     same_stamp : (s n d : ℕ) → s ≡ 0 → n ≡ 0 → d ≡ 0 → ◌≡◌ {A = Stamp} (record { seconds = s; numerator = n; denominator_less_one = d }) start_stamp
     same_stamp s n d a b c = rw (a, b, c)
 
-module _ {S Q : Type 0} (m : structures.Meaning S) (n : queues.Meaning Q Stamp) where
-  pub opens : (b' : Board S Q) (q : Q) → structures.Cleared m b'.structure → stamp_of b'.clock ≡ start_stamp → b'.total ≡ 0 → (n.sound q → queues.Empty n b'.queue) → (n.sound q → n.capacity b'.queue ≡ n.capacity q) → n.keeps q b'.queue → Opened m n q b'
-  opens b' q s c t e k keeps =
+module _ {S Q : Type 0} (m : structures.Meaning S) (n : queues.Meaning Q Ticket) where
+  -- q is the queue before the opening, and cleared the one after it
+  pub opens : (b' : Board S Q) (q cleared : Q) → structures.Cleared m b'.structure → stamp_of b'.clock ≡ start_stamp → b'.total ≡ 0 →
+      b'.queue ≡ cleared → b'.capacity ≡ n.capacity cleared → (n.sound q → queues.Empty n cleared) → (n.sound q → n.capacity cleared ≡ n.capacity q) → n.keeps q cleared → Opened m n q b'
+  opens b' q cleared s c t same room e k keeps =
+      let empty : n.sound q → queues.Empty n b'.queue = λ x. subst (queues.Empty n) (sym same) (e x) in
+      let size : b'.capacity ≡ n.capacity b'.queue = room ∙ sym (ap n.capacity same) in
       record {
+        cleared = s;
         roster = s.roster;
         clock = c;
         total = t;
-        queue = record { sound = λ x. (e x).sound; capacity = k; keeps = keeps };
+        capacity = size;
+        queue = record { sound = λ x. (empty x).sound; capacity = λ x. ap n.capacity same ∙ k x; keeps = subst (n.keeps q) (sym same) keeps };
         right = λ x. record {
-          sound = (e x).sound;
+          sound = (empty x).sound;
+          capacity = size;
           room = inr s.roster;
-          rests = (s.stands _, λ i r f h. absurd (none_some (sym (s.certificates i) ∙ h)));
-          tickets = λ i. (e x).none i ∙ sym (ap ticket (s.certificates i));
+          rests = (s.stands (time_of (stamp_of b'.clock)) (proper (stamp_of b'.clock)), λ i r f h. absurd (none_some (sym (s.certificates i) ∙ h)));
+          tickets = λ i. (empty x).none i ∙ sym (ap ticket (s.certificates i));
           total = record { so_far = omega (arith, t); to_come = let l = s.load in omega (arith, t, l) };
         };
       }

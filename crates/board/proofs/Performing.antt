@@ -3,9 +3,9 @@ use Rattle.std.proofs.Common.{◌≡◌, ℕ, ◌+◌, ◌-◌, ◌<◌, ◌≤�
 use Rattle.std.proofs.lemmas.List.{reverse-append, length-take-le, length-drop, length-append, take-take, take_all, take_at, take_more_set, take_rest, drop-take, drop-drop, drop_all, drop_at, append-nil, get_or-append_right, get_or-drop}
 use borrow.Rule.Slice.PartMut.{put_mid}
 use Rattle.event_queue.specs.Queues as queues
-use Rattle.fairway.specs.declared.stamp.Stamp.{Stamp}
 use Rattle.kinetic.specs.Structures as structures
 use Rattle.kinetic.specs.Structures.{InOrder, InFront}
+use Rattle.board.specs.Tickets.{Ticket}
 use Rattle.board.specs.Books.{mends_of}
 use Rattle.board.specs.History.{AllHappened, AsBooked, Adds}
 use Rattle.board.specs.History.AllHappened.{nothing, next}
@@ -20,7 +20,7 @@ use Rattle.board.specs.declared.call.Outcome.{Outcome}
 use Rattle.board.specs.declared.call.Row.{Row}
 use Rattle.board.specs.declared.refusal.Refusal.{Refusal}
 use Rattle.board.proofs.Pasts.{adds, as_booked}
-use Rattle.board.proofs.Throughout.{past_of, throughout_of}
+use Rattle.board.proofs.Throughout.{past_of, throughout_of, every_of}
 
 -- ---- calls that are given no rows
 
@@ -32,7 +32,7 @@ Plain (Leave number) = Unit {0}
 Plain (Steer number speed) = Unit {0}
 Plain (Advance s n d) = ⊥
 
-module _ {S Q : Type 0} (m : structures.Meaning S) (n : queues.Meaning Q Stamp) where
+module _ {S Q : Type 0} (m : structures.Meaning S) (n : queues.Meaning Q Ticket) where
   -- what happens by such a call does not depend on the rows lent
   relent : (b b' : Board S Q) (call : Call) (answer : Result Unit Refusal) (rows : List Row) → Plain call → Happened m n b (plain_event call (done answer)) b' → Happened m n b (rows_event call (done answer) rows) b'
   relent b b' Open (Ok u) rows p h = h
@@ -109,7 +109,7 @@ calls_same [] i d o = refl
 calls_same (x ∷ lines) zero d o = refl
 calls_same (x ∷ lines) (suc i) d o = ap (λ z. x.call ∷ z) (calls_same lines i d o)
 
-module _ {S Q : Type 0} (m : structures.Meaning S) (n : queues.Meaning Q Stamp) where
+module _ {S Q : Type 0} (m : structures.Meaning S) (n : queues.Meaning Q Ticket) where
   -- the first i lines are performed, from an opened board on, and have written the used rows
   pub record Way (start : Board S Q) (asked : List Line) (first : List Row) (b : Board S Q) (lines : List Line) (rows : List Row) (used i : ℕ) : Type 0 where
     pub calls : calls_of lines ≡ calls_of asked
@@ -141,7 +141,7 @@ module _ {S Q : Type 0} (m : structures.Meaning S) (n : queues.Meaning Q Stamp) 
         happened = subst (λ y. AllHappened m n start y b') (sym (ap (λ y. log_of y rows') e ∙ log)) (next w.happened h);
       }
 
-  -- the same as a loop has it
+  -- one line more, as the loop that performs them has it
   pub way_next : (start : Board S Q) (asked : List Line) (first : List Row) (b b' : Board S Q) (lines : List Line) (rows new : List Row) (used used' i : ℕ) (d : Line) (o : Outcome) → i < length lines → Way start asked first b lines rows used i → Adds m n b (rows_event (get_or lines i d).call o new) b' → Written (mends_of o) (take (length rows - used) (drop used rows)) new → used' ≡ used + mends_of o → Way start asked first b' (set lines i (record { call = (get_or lines i d).call; outcome = o })) (put_mid used (length rows - used) rows new) used' (i + 1)
   way_next start asked first b b' lines rows new used used' i d o lt w h v e =
       let lines' = set lines i (record { call = (get_or lines i d).call; outcome = o }) in
@@ -163,5 +163,6 @@ module _ {S Q : Type 0} (m : structures.Meaning S) (n : queues.Meaning Q Stamp) 
           was_opened = o;
           happened = h;
           past = λ s. past_of m n old.queue start b (log_of lines rows) s o h;
+          every = λ s. every_of m n (AsBooked m n) (as_booked m n ordered leads) old.queue start s o;
           booked = λ s. throughout_of m n (AsBooked m n) (as_booked m n ordered leads) old.queue start b (log_of lines rows) s o h;
         }

@@ -9,13 +9,11 @@ use Rattle.event_queue.proofs.Laws.{rekeyed_only}
 use Rattle.event_queue.proofs.Options.{none_some}
 use Rattle.fairway.specs.Meetings.{level}
 use Rattle.fairway.specs.declared.course.Course.{Course}
-use Rattle.fairway.specs.declared.stamp.Stamp.{Stamp}
 use Rattle.kinetic.specs.Numbers.{among}
 use Rattle.kinetic.specs.Structures as structures
 use Rattle.kinetic.specs.Structures.{Certified}
-use Rattle.board.specs.Tickets.{ticket, QueueKept}
-use Rattle.fairway.specs.Orders.{pair}
-use Rattle.fairway.specs.declared.pair.Pair.{Pair}
+use Rattle.board.proofs.TicketLaws.{ticket_level}
+use Rattle.board.specs.Tickets.{Ticket, instant_of, ticket, QueueKept}
 
 -- ---- numbers among others
 either_swap : (a b c : Bool) → (a || (b || c)) ≡ ((a || b) || c)
@@ -40,23 +38,23 @@ or_false a b e = grind arith
 
 -- ---- the ticket of a certificate
 -- the ticket that the certificate of a number asks for
-abbrev pub wanted : {S : Type 0} → structures.Meaning S → S → ℕ → Option Stamp
+abbrev pub wanted : {S : Type 0} → structures.Meaning S → S → ℕ → Option Ticket
 wanted m s i = ticket (m.certificate s i)
 
 -- the pair that a ticket is of
-pub record TicketOf (certificate : Option Pair) (k : Stamp) : Type 0 where
+pub record TicketOf (certificate : Option (Course × Course)) (k : Ticket) : Type 0 where
   pub rear : Course
   pub front : Course
-  pub pair : certificate ≡ Some (pair rear front)
-  pub meets : level rear front ≡ Some k
+  pub pair : certificate ≡ Some (rear, front)
+  pub meets : level rear front ≡ Some (instant_of k)
 
-pub ticket_of : (o : Option Pair) (k : Stamp) → ticket o ≡ Some k → TicketOf o k
+pub ticket_of : (o : Option (Course × Course)) (k : Ticket) → ticket o ≡ Some k → TicketOf o k
 ticket_of None k e = absurd (none_some e)
-ticket_of (Some p) k e = record { rear = p.rear; front = p.front; pair = refl; meets = e }
+ticket_of (Some p) k e = record { rear = p.0; front = p.1; pair = refl; meets = ticket_level p.0 p.1 k e }
 
-module _ {S Q : Type 0} (m : structures.Meaning S) (n : queues.Meaning Q Stamp) (certified : Certified m) where
+module _ {S Q : Type 0} (m : structures.Meaning S) (n : queues.Meaning Q Ticket) (certified : Certified m) where
   -- given the key that is wanted
-  pub given_anew : (s : S) (q q' : Q) (i : ℕ) (k : Stamp) (r : Result Unit Refusal) → wanted m s i ≡ Some k → Rekeyed n q q' i k r → n.sound q → n.capacity q ≡ 64 → Only n q q' i (wanted m s i)
+  pub given_anew : (s : S) (q q' : Q) (i : ℕ) (k : Ticket) (r : Result Unit Refusal) → wanted m s i ≡ Some k → Rekeyed n q q' i k r → n.sound q → n.capacity q ≡ 64 → Only n q q' i (wanted m s i)
   given_anew s q q' i k r e d sound large =
       let t = ticket_of (m.certificate s i) k e in
       let low = (certified s i t.rear t.front t.pair).0 in

@@ -3,7 +3,7 @@ use Rattle.std.proofs.Common.{◌≡◌, ℕ, ◌+◌, ◌-◌, ◌<◌, Bool, t
 use Rattle.std.specs.Result.{IsErrAnd}
 use Rattle.event_queue.specs.Refusals.{◌when◌, topmost}
 use Rattle.event_queue.specs.Queues as queues
-use Rattle.event_queue.proofs.Options.{none_some, some_same}
+use Rattle.event_queue.proofs.Options.{none_some}
 use Rattle.fairway.specs.Behind.{behind}
 use Rattle.fairway.specs.Instants.{stamp_of, value}
 use Rattle.fairway.specs.Orders.{Apart, order}
@@ -12,7 +12,6 @@ use Rattle.fairway.specs.Stamps.{time_of}
 use Rattle.fairway.specs.Times.{Time, Proper, whole_and}
 use Rattle.fairway.specs.declared.course.Course.{Course}
 use Rattle.fairway.specs.declared.instant.Instant.{Instant}
-use Rattle.fairway.specs.declared.stamp.Stamp.{Stamp}
 use Rattle.fairway.proofs.Rosters.{same_from}
 use Rattle.fairway.proofs.Sorting.{sorted_order, same_order, unique, over_order}
 use Rattle.fairway.proofs.Totals.{over, over_is}
@@ -20,16 +19,17 @@ use Rattle.kinetic.specs.Structures as structures
 use Rattle.kinetic.specs.Structures.{Rests}
 use Rattle.kinetic.specs.declared.refusal.Refusal.{Refusal as StructureRefusal}
 use Rattle.kinetic.specs.declared.refusal.Refusal.TheVariants as structure
-use Rattle.sorted_list.specs.Questions.{means, courses_of, NeighbourAhead, NeighbourAstern}
-use Rattle.sorted_list.specs.Ranks.{in_front, Next, NextAhead, NextBehind}
-use Rattle.sorted_list.specs.Rosters.{next_after, next_before}
+use Rattle.sorted_list.specs.Questions.{means, courses_of}
+use Rattle.sorted_list.specs.Ranks.{in_front, Next}
 use Rattle.sorted_list.specs.RostersLemmas.{well_apart}
 use Rattle.sorted_list.specs.declared.list.SortedList.{SortedList}
 use Rattle.board.specs.Books.{Log, book}
 use Rattle.board.specs.History.{Past}
-use Rattle.board.specs.ListQuestions.{vessel_refusal, Answered, OfVessel, Asked, AheadIs, BehindIs, front_neighbour, rear_neighbour}
+use Rattle.board.specs.ListQuestions.{question_refusal, Answered, OfVessel, Asked, NeighbourIs, NextOn, neighbour, next_on}
 use Rattle.board.specs.declared.list.Neighbour.{Neighbour}
-use Rattle.board.specs.Refusals.{of_structure}
+use Rattle.board.specs.declared.list.Side.{Side}
+use Rattle.board.specs.declared.list.Side.TheVariants.{Ahead, Behind}
+use Rattle.board.specs.Tickets.{Ticket}
 use Rattle.board.specs.declared.board.Board.{Board}
 use Rattle.board.specs.declared.refusal.Refusal.{Refusal}
 use Rattle.board.specs.declared.refusal.Refusal.TheVariants.{NumberZero, UnknownVessel}
@@ -46,40 +46,22 @@ pub clock_proper : (i : Instant) → Proper (value i)
 clock_proper i = let b : i.numerator < i.denominator = i.below in omega (arith, b)
 
 -- ---- refusals
-by_tests : (zero there : Bool) (e : StructureRefusal) → topmost (structure.NumberZero when zero ∷ structure.UnknownVessel when not there ∷ []) ≡ Some e →
-    topmost (NumberZero when zero ∷ UnknownVessel when not there ∷ []) ≡ Some (of_structure e)
-by_tests true there e h = ap (λ z. Some (of_structure z)) (some_same h)
-by_tests false true e h = absurd (none_some h)
-by_tests false false e h = ap (λ z. Some (of_structure z)) (some_same h)
+accepted_so : (zero there : Bool) → topmost (NumberZero when zero ∷ UnknownVessel when not there ∷ []) ≡ None →
+    topmost (structure.NumberZero when zero ∷ structure.UnknownVessel when not there ∷ []) ≡ None
+accepted_so true there h = absurd (none_some (sym h))
+accepted_so false true h = refl
+accepted_so false false h = absurd (none_some (sym h))
 
-none_by_tests : (zero there : Bool) → topmost (structure.NumberZero when zero ∷ structure.UnknownVessel when not there ∷ []) ≡ None →
-    topmost (NumberZero when zero ∷ UnknownVessel when not there ∷ []) ≡ None
-none_by_tests true there h = absurd (none_some (sym h))
-none_by_tests false true h = refl
-none_by_tests false false h = absurd (none_some (sym h))
-
--- the board refuses as the list does
-pub refused_so : (s : SortedList) (v : ℕ) (e : StructureRefusal) → structures.vessel_refusal means s v ≡ Some e → vessel_refusal (course_of (courses_of s)) v ≡ Some (of_structure e)
-refused_so s v e h = by_tests (nat_eq v 0) (is_some (course_of (courses_of s) v)) e h
-
--- an accepted question is on a vessel aboard
-aboard_by : (zero : Bool) (o : Option Course) → topmost (NumberZero when zero ∷ UnknownVessel when not (is_some o) ∷ []) ≡ None → (c : Course) × (o ≡ Some c)
-aboard_by true o h = absurd (none_some (sym h))
-aboard_by false (Some c) h = (c, refl)
-aboard_by false None h = absurd (none_some (sym h))
-
-pub answered : {A : Type 0} (s : SortedList) (v : ℕ) (P : Course → A → Type 0) (answer : A) → structures.vessel_refusal means s v ≡ None → ((c : Course) → means.roster s v ≡ Some c → P c answer) → Answered (courses_of s) v P answer
-answered s v P answer h k =
-    let a = none_by_tests (nat_eq v 0) (is_some (course_of (courses_of s) v)) h in
-    let c = aboard_by (nat_eq v 0) (course_of (courses_of s) v) a in
-    record { accepted = a; course = c.0; aboard = c.1; answer_is = k c.0 c.1 }
+-- the list refuses no question that the board accepts
+pub not_refused : {e : StructureRefusal} (s : SortedList) (v : ℕ) → question_refusal (course_of (courses_of s)) v ≡ None → structures.vessel_refusal means s v ≡ Some e → ⊥
+not_refused s v h r = none_some (sym (accepted_so (nat_eq v 0) (is_some (course_of (courses_of s) v)) h) ∙ r)
 
 -- what holds of the course of a vessel that was found
 pub about : {A : Type 0} (xs : List Course) (v : ℕ) (P : Course → A → Type 0) (own : Course) (answer : A) → Answered xs v (λ c o. o ≡ c) own → P own answer → Answered xs v P answer
 about xs v P own answer h p = record { accepted = h.accepted; course = own; aboard = h.aboard ∙ ap Some (sym h.answer_is); answer_is = p }
 
 -- ---- from one roster to another
-alike : (f g : ℕ → Option Course) (v : ℕ) → f v ≡ g v → vessel_refusal f v ≡ vessel_refusal g v
+alike : (f g : ℕ → Option Course) (v : ℕ) → f v ≡ g v → question_refusal f v ≡ question_refusal g v
 alike f g v e = ap (λ o. topmost (NumberZero when nat_eq v 0 ∷ UnknownVessel when not (is_some o) ∷ [])) e
 
 pub carried : {A : Type 0} (xs ys : List Course) (v : ℕ) (P R : Course → A → Type 0) → course_of xs v ≡ course_of ys v → ((c : Course) (a : A) → course_of xs v ≡ Some c → P c a → R c a) → (answer : Result A Refusal) → OfVessel xs v P answer → OfVessel ys v R answer
@@ -105,16 +87,14 @@ module _ (t : Time) (f g : ℕ → Option Course) (e : (n : ℕ) → f n ≡ g n
   next_same : (r d : Course) → Next t f r d → Next t g r d
   next_same r d h = record { in_order = h.in_order; none_between = λ n c q. h.none_between n c (e n ∙ q) }
 
-  next_ahead_same : (c : Course) (o : Option Course) → NextAhead t f c o → NextAhead t g c o
-  next_ahead_same c (Some d) h = (sym (e d.number) ∙ h.0, next_same c d h.1)
-  next_ahead_same c None h = λ n d q. h n d (e n ∙ q)
-
-  next_behind_same : (c : Course) (o : Option Course) → NextBehind t f c o → NextBehind t g c o
-  next_behind_same c (Some r) h = (sym (e r.number) ∙ h.0, next_same r c h.1)
-  next_behind_same c None h = λ n d q. h n d (e n ∙ q)
+  next_on_same : (side : Side) (c : Course) (o : Option Course) → NextOn side t f c o → NextOn side t g c o
+  next_on_same Ahead c (Some d) h = (sym (e d.number) ∙ h.0, next_same c d h.1)
+  next_on_same Ahead c None h = λ n d q. h n d (e n ∙ q)
+  next_on_same Behind c (Some r) h = (sym (e r.number) ∙ h.0, next_same r c h.1)
+  next_on_same Behind c None h = λ n d q. h n d (e n ∙ q)
 
 -- ---- a board's answers
-module _ {Q : Type 0} (n : queues.Meaning Q Stamp) (b : Board SortedList Q) where
+module _ {Q : Type 0} (n : queues.Meaning Q Ticket) (b : Board SortedList Q) where
   module _ (log : Log) (p : Past means n b log) where
     pub book_time : value b.clock ≡ time_of (book log).clock
     book_time = clock_time b.clock ∙ ap time_of (kept_of means n b log p).clock
@@ -142,7 +122,7 @@ module _ {Q : Type 0} (n : queues.Meaning Q Stamp) (b : Board SortedList Q) wher
       }
 
   -- a refused question
-  pub refused : {A : Type 0} (v : ℕ) (P : Course → A → Type 0) (R : Time → List Course → Course → A → Type 0) (e : Refusal) → vessel_refusal (course_of (courses_of b.structure)) v ≡ Some e →
+  pub refused : {A : Type 0} (v : ℕ) (P : Course → A → Type 0) (R : Time → List Course → Course → A → Type 0) (e : Refusal) → question_refusal (course_of (courses_of b.structure)) v ≡ Some e →
       (answer : Result A Refusal) → IsErrAnd answer (λ own. own ≡ e) → Asked n b v P R answer
   refused v P R e h (Ok a) q = absurd q
   refused v P R e h (Err own) q =
@@ -151,19 +131,14 @@ module _ {Q : Type 0} (n : queues.Meaning Q Stamp) (b : Board SortedList Q) wher
         booked = λ log p. sym (alike (course_of (courses_of b.structure)) (course_of (book log).roster) v (book_course log p v)) ∙ h ∙ ap Some (sym q);
       }
 
-  -- the vessel next in the list is the one next in the book
-  pub book_next_front : (v : ℕ) {answer : Option Course} → NeighbourAhead b.structure v answer → (log : Log) → Past means n b log → (c : Course) (a : Option Neighbour) → course_of (courses_of b.structure) v ≡ Some c → a ≡ front_neighbour (value b.clock) c (next_after v (courses_of b.structure)) → AheadIs (value b.clock) (book log).roster c a
-  book_next_front v {answer} h log p c a e q =
+  -- the vessel next in the list, as long as it rests, is the one next in the book
+  pub book_next : (side : Side) (v : ℕ) (next : Option Course) → next ≡ next_on side v (courses_of b.structure) →
+      ((c : Course) → means.roster b.structure v ≡ Some c → (t : Time) → Rests means t b.structure → NextOn side t (means.roster b.structure) c next) →
+      (log : Log) → Past means n b log → (c : Course) (a : Option Neighbour) → course_of (courses_of b.structure) v ≡ Some c →
+      a ≡ neighbour side (value b.clock) c (next_on side v (courses_of b.structure)) → NeighbourIs side (value b.clock) (book log).roster c a
+  book_next side v next value_is h log p c a e q =
       record {
-        front = answer;
-        next = next_ahead_same (value b.clock) (course_of (courses_of b.structure)) (course_of (book log).roster) (book_course log p) c answer (h.next c e (value b.clock) (book_rests log p));
-        answer_is = q ∙ ap (front_neighbour (value b.clock) c) (sym h.value);
-      }
-
-  pub book_next_rear : (v : ℕ) {answer : Option Course} → NeighbourAstern b.structure v answer → (log : Log) → Past means n b log → (c : Course) (a : Option Neighbour) → course_of (courses_of b.structure) v ≡ Some c → a ≡ rear_neighbour (value b.clock) c (next_before v (courses_of b.structure)) → BehindIs (value b.clock) (book log).roster c a
-  book_next_rear v {answer} h log p c a e q =
-      record {
-        rear = answer;
-        next = next_behind_same (value b.clock) (course_of (courses_of b.structure)) (course_of (book log).roster) (book_course log p) c answer (h.next c e (value b.clock) (book_rests log p));
-        answer_is = q ∙ ap (rear_neighbour (value b.clock) c) (sym h.value);
+        next = next;
+        is_next = next_on_same (value b.clock) (course_of (courses_of b.structure)) (course_of (book log).roster) (book_course log p) side c next (h c e (value b.clock) (book_rests log p));
+        answer_is = q ∙ ap (neighbour side (value b.clock) c) (sym value_is);
       }

@@ -11,7 +11,7 @@ use Rattle.kinetic.specs.Limits.{out_of_range}
 use Rattle.kinetic.specs.Structures as structures
 use Rattle.kinetic.specs.Structures.{Rests}
 use Rattle.board.specs.Books.{at_speed, goal}
-use Rattle.board.specs.Tickets.{Tickets}
+use Rattle.board.specs.Tickets.{Ticket, Tickets}
 use Rattle.board.specs.declared.board.Board.{Board}
 use Rattle.board.specs.declared.call.Call.{Call}
 use Rattle.board.specs.declared.call.Call.TheVariants.{Open, Enter, Leave, Steer, Advance}
@@ -25,7 +25,7 @@ abbrev pub begun : Instant → ℕ
 begun i = cond (i.numerator == 0) i.seconds (i.seconds + 1)
 
 -- at most 2,016 mends for each second begun, and as many with those that the load still allows
-pub record Bounded (clock : Instant) (total load : ℕ) : Type 0 where
+pub record TotalBounded (clock : Instant) (total load : ℕ) : Type 0 where
   pub so_far : total ≤ 2016 * begun clock
   pub to_come : total + load ≤ 2016 * (clock.seconds + 1)
 
@@ -54,8 +54,7 @@ steer_out (Some c) speed second = out_of_range (at_speed speed second c)
 
 -- ---- the table of refusals
 
--- What a refusal depends on: the clock, the course of each vessel aboard, how many vessels there are, the load, and the
--- capacity of the queue.
+-- What a refusal depends on: the clock, each vessel's course, how many vessels there are, the load, the queue's capacity.
 pub record Facts : Type 0 where
   pub clock : Stamp
   pub roster : ℕ → Option Course
@@ -63,8 +62,7 @@ pub record Facts : Type 0 where
   pub load : ℕ
   pub capacity : ℕ
 
--- The table of refusals: of each call, lent so many rows, from the top. Where it is none, the call is
--- accepted.
+-- The table of refusals: of each call, lent so many rows, from the top. Where it is none, the call is accepted.
 abbrev pub refusal_of : Facts → Call → ℕ → Option Refusal
 refusal_of f Open lent = None
 refusal_of f (Enter number position speed) lent =
@@ -92,16 +90,17 @@ refusal_of f (Advance s n d) lent =
     Early when earlier (goal s n d) f.clock ∷
     FewRows when nat_lt lent f.load ∷ [])
 
-module _ {S Q : Type 0} (m : structures.Meaning S) (n : queues.Meaning Q Stamp) where
+module _ {S Q : Type 0} (m : structures.Meaning S) (n : queues.Meaning Q Ticket) where
   -- A board is right: its queue is sound, and has a ticket number for each certificate or there is no
   -- vessel; its structure stands at the clock with none due; the queue holds the tickets that the
   -- certificates ask for and no others; the total is within its bound.
   pub record Right (b : Board S Q) : Type 0 where
     pub sound : n.sound b.queue
+    pub capacity : b.capacity ≡ n.capacity b.queue
     pub room : (n.capacity b.queue ≡ 64) ⊎ ((v : ℕ) → m.roster b.structure v ≡ None)
     pub rests : Rests m (time_of (stamp_of b.clock)) b.structure
     pub tickets : Tickets m n b.structure b.queue
-    pub total : Bounded b.clock b.total (m.load b.structure)
+    pub total : TotalBounded b.clock b.total (m.load b.structure)
 
   -- the facts of a board
   abbrev pub facts_of : Board S Q → Facts
@@ -111,7 +110,7 @@ module _ {S Q : Type 0} (m : structures.Meaning S) (n : queues.Meaning Q Stamp) 
         roster = m.roster b.structure;
         count = m.count b.structure;
         load = m.load b.structure;
-        capacity = n.capacity b.queue;
+        capacity = b.capacity;
       }
 
   -- why a board refuses a call that is lent so many rows, or none

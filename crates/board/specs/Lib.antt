@@ -2,6 +2,7 @@ pub mod Refusals
 pub mod Books
 pub mod Tickets
 pub mod Boards
+pub mod Checks
 pub mod Passings
 pub mod Outcomes
 pub mod History
@@ -10,3 +11,4 @@ pub mod Questions
 pub mod Reckoning
 pub mod Claims
 pub mod ListQuestions
+pub mod Everywhere

@@ -4,28 +4,29 @@ use Rattle.event_queue.specs.Queues as queues
 use Rattle.event_queue.specs.Refusals.{◌when◌, topmost}
 use Rattle.fairway.specs.Courses.{place}
 use Rattle.fairway.specs.Instants.{value}
-use Rattle.fairway.specs.Orders.{order}
 use Rattle.fairway.specs.Rosters.{course_of}
 use Rattle.fairway.specs.Stamps.{time_of}
 use Rattle.fairway.specs.Times.{Time}
 use Rattle.fairway.specs.declared.course.Course.{Course}
-use Rattle.fairway.specs.declared.stamp.Stamp.{Stamp}
 use Rattle.sorted_list.specs.Questions.{means, courses_of}
 use Rattle.sorted_list.specs.Ranks.{in_front, NextAhead, NextBehind}
 use Rattle.sorted_list.specs.Rosters.{next_after, next_before}
 use Rattle.sorted_list.specs.declared.list.SortedList.{SortedList}
 use Rattle.board.specs.Books.{Log, book}
-use Rattle.board.specs.Claims.{AsListed}
+use Rattle.board.specs.Claims.{IsOrderOf, AsListed}
 use Rattle.board.specs.History.{Past}
+use Rattle.board.specs.Tickets.{Ticket}
 use Rattle.board.specs.declared.board.Board.{Board}
 use Rattle.board.specs.declared.list.Length.{Length}
 use Rattle.board.specs.declared.list.Neighbour.{Neighbour}
+use Rattle.board.specs.declared.list.Side.{Side}
+use Rattle.board.specs.declared.list.Side.TheVariants.{Ahead, Behind}
 use Rattle.board.specs.declared.refusal.Refusal.{Refusal}
 use Rattle.board.specs.declared.refusal.Refusal.TheVariants.{NumberZero, UnknownVessel}
 
 -- the refusals of a question on one vessel
-abbrev pub vessel_refusal : (ℕ → Option Course) → ℕ → Option Refusal
-vessel_refusal roster number =
+abbrev pub question_refusal : (ℕ → Option Course) → ℕ → Option Refusal
+question_refusal roster number =
     topmost (
     NumberZero when nat_eq number 0 ∷
     UnknownVessel when not (is_some (roster number)) ∷ [])
@@ -38,14 +39,16 @@ position_of t c = record { parts = place t c; denominator = t.den }
 abbrev pub gap_of : Time → Course → Course → Length
 gap_of t rear front = record { parts = place t front -ℤ place t rear; denominator = t.den }
 
--- the front vessel, or the rear one, as the neighbour of the other
-abbrev pub front_neighbour : Time → Course → Option Course → Option Neighbour
-front_neighbour t c None = None
-front_neighbour t c (Some f) = Some (record { number = f.number; gap = gap_of t c f })
+-- the vessel next on a side of c, as its neighbour
+abbrev pub neighbour : Side → Time → Course → Option Course → Option Neighbour
+neighbour side t c None = None
+neighbour Ahead t c (Some d) = Some (record { number = d.number; gap = gap_of t c d })
+neighbour Behind t c (Some d) = Some (record { number = d.number; gap = gap_of t d c })
 
-abbrev pub rear_neighbour : Time → Course → Option Course → Option Neighbour
-rear_neighbour t c None = None
-rear_neighbour t c (Some r) = Some (record { number = r.number; gap = gap_of t r c })
+-- the one that stands next on a side of the vessel v in a list
+abbrev pub next_on : Side → ℕ → List Course → Option Course
+next_on Ahead v xs = next_after v xs
+next_on Behind v xs = next_before v xs
 
 -- ---- what is answered of a vessel's course, at a time, among the vessels of a roster
 
@@ -57,45 +60,44 @@ RankIs t roster c rank = rank ≡ in_front t c roster + 1
 abbrev pub PositionIs : Time → List Course → Course → Length → Type 0
 PositionIs t roster c length = length ≡ position_of t c
 
--- the vessel next in front, with the gap; or none
-pub record AheadIs (t : Time) (roster : List Course) (c : Course) (answer : Option Neighbour) : Type 0 where
-  pub front : Option Course
-  pub next : NextAhead t (course_of roster) c front
-  pub answer_is : answer ≡ front_neighbour t c front
+-- of a roster it is the one next on that side at t; none where there is none
+abbrev pub NextOn : Side → Time → (ℕ → Option Course) → Course → Option Course → Type 0
+NextOn Ahead t roster c next = NextAhead t roster c next
+NextOn Behind t roster c next = NextBehind t roster c next
 
--- the vessel next behind, with the gap; or none
-pub record BehindIs (t : Time) (roster : List Course) (c : Course) (answer : Option Neighbour) : Type 0 where
-  pub rear : Option Course
-  pub next : NextBehind t (course_of roster) c rear
-  pub answer_is : answer ≡ rear_neighbour t c rear
+-- the vessel next on a side, with the gap; or none
+pub record NeighbourIs (side : Side) (t : Time) (roster : List Course) (c : Course) (answer : Option Neighbour) : Type 0 where
+  pub next : Option Course
+  pub is_next : NextOn side t (course_of roster) c next
+  pub answer_is : answer ≡ neighbour side t c next
 
 -- ---- questions on the vessel v of a roster
 
 -- the question is accepted, and P holds of the vessel's course and the answer
 pub record Answered {A : Type 0} (roster : List Course) (v : ℕ) (P : Course → A → Type 0) (answer : A) : Type 0 where
-  pub accepted : vessel_refusal (course_of roster) v ≡ None
+  pub accepted : question_refusal (course_of roster) v ≡ None
   pub course : Course
   pub aboard : course_of roster v ≡ Some course
   pub answer_is : P course answer
 
--- the same, or why the question is refused
+-- what a question on a vessel answers: P of its course and the answer, or why the question is refused
 abbrev pub OfVessel : {A : Type 0} → List Course → ℕ → (Course → A → Type 0) → Result A Refusal → Type 0
 OfVessel roster v P (Ok answer) = Answered roster v P answer
-OfVessel roster v P (Err e) = vessel_refusal (course_of roster) v ≡ Some e
+OfVessel roster v P (Err e) = question_refusal (course_of roster) v ≡ Some e
 
-module _ {Q : Type 0} (n : queues.Meaning Q Stamp) (b : Board SortedList Q) where
+module _ {Q : Type 0} (n : queues.Meaning Q Ticket) (b : Board SortedList Q) where
   -- the clock as a time
   abbrev pub now : Time
   now = value b.clock
 
-  -- the courses from rear to front; of a board with a past they are the book's order, and the whole claim holds
+  -- the courses from rear to front; of a board with a past they are the only list of the
+  -- book's vessels from rear to front at its clock, and the whole claim holds
   pub record OrderAnswer (answer : List Course) : Type 0 where
     pub value : answer ≡ courses_of b.structure
-    pub booked : (log : Log) → Past means n b log → answer ≡ order (time_of (book log).clock) (book log).roster
+    pub booked : (log : Log) → Past means n b log → IsOrderOf (time_of (book log).clock) (book log).roster answer
     pub listed : (log : Log) → Past means n b log → AsListed n b log
 
-  -- P is answered of the vessel v of the list, and of a board with a past, R of that vessel of the book at the
-  -- book's clock
+  -- P is answered of the vessel v of the list; of a board with a past, R of that vessel of the book at its clock
   pub record Asked {A : Type 0} (v : ℕ) (P : Course → A → Type 0) (R : Time → List Course → Course → A → Type 0) (answer : Result A Refusal) : Type 0 where
     pub value : OfVessel (courses_of b.structure) v P answer
     pub booked : (log : Log) → Past means n b log → OfVessel (book log).roster v (R (time_of (book log).clock) (book log).roster) answer
@@ -112,10 +114,6 @@ module _ {Q : Type 0} (n : queues.Meaning Q Stamp) (b : Board SortedList Q) wher
   abbrev pub PositionAnswer : ℕ → Result Length Refusal → Type 0
   PositionAnswer v = Asked v (PositionIs now (courses_of b.structure)) PositionIs
 
-  -- the vessel that stands next in the list, with the gap at the clock; it is the one next in front in the book
-  abbrev pub AheadAnswer : ℕ → Result (Option Neighbour) Refusal → Type 0
-  AheadAnswer v = Asked v (λ c answer. answer ≡ front_neighbour now c (next_after v (courses_of b.structure))) AheadIs
-
-  -- the vessel that stands next before it in the list, likewise
-  abbrev pub BehindAnswer : ℕ → Result (Option Neighbour) Refusal → Type 0
-  BehindAnswer v = Asked v (λ c answer. answer ≡ rear_neighbour now c (next_before v (courses_of b.structure))) BehindIs
+  -- the vessel that stands next in the list, with the gap at the clock; it is the one next in the book
+  abbrev pub NeighbourAnswer : Side → ℕ → Result (Option Neighbour) Refusal → Type 0
+  NeighbourAnswer side v = Asked v (λ c answer. answer ≡ neighbour side now c (next_on side v (courses_of b.structure))) (NeighbourIs side)

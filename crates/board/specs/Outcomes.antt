@@ -1,5 +1,5 @@
 -- What each call does to a board.
-use Rattle.std.specs.Prelude.{◌≡◌, ℕ, ◌+◌, ◌-◌, ◌^◌, ◌≤◌, false, min, List, [], length, take, Some, None, Ok, Err, Option, Result, ◌≢◌, ℤ}
+use Rattle.std.specs.Prelude.{◌≡◌, ℕ, ◌+◌, ◌-◌, ◌^◌, ◌≤◌, false, min, List, [], length, take, Some, None, Ok, Err, Option, Result, ◌≢◌}
 use Rattle.std.specs.List.{AllByRecursion}
 use Rattle.std.specs.List.Sorted.{IsSortedBy}
 use Rattle.event_queue.specs.Queues as queues
@@ -10,7 +10,7 @@ use Rattle.fairway.specs.declared.course.Course.{Course}
 use Rattle.fairway.specs.declared.stamp.Stamp.{Stamp}
 use Rattle.kinetic.specs.Structures as structures
 use Rattle.board.specs.Books.{start_stamp, course_at, at_speed, goal, Event, mends_of}
-use Rattle.board.specs.Tickets.{QueueKept}
+use Rattle.board.specs.Tickets.{Ticket, QueueKept}
 use Rattle.board.specs.Boards.{Right, refusal}
 use Rattle.board.specs.Passings.{RowRight, Passings}
 use Rattle.board.specs.declared.board.Board.{Board}
@@ -25,12 +25,16 @@ use Rattle.board.specs.declared.refusal.Refusal.{Refusal}
 abbrev pub InTime : List Row → Type 0
 InTime rows = IsSortedBy (λ a b. earlier a.at b.at) rows
 
-module _ {S Q : Type 0} (m : structures.Meaning S) (n : queues.Meaning Q Stamp) where
-  -- an opening leaves no vessel, the clock and the total at 0, and over a sound queue a right board
+module _ {S Q : Type 0} (m : structures.Meaning S) (n : queues.Meaning Q Ticket) where
+  -- an opening leaves a cleared structure, without a vessel, the clock and the total at 0, and over a sound queue a right
+  -- board
   pub record Opened (q : Q) (b' : Board S Q) : Type 0 where
+    pub cleared : structures.Cleared m b'.structure
     pub roster : (v : ℕ) → m.roster b'.structure v ≡ None
     pub clock : stamp_of b'.clock ≡ start_stamp
     pub total : b'.total ≡ 0
+    -- as many ticket numbers as the queue has
+    pub capacity : b'.capacity ≡ n.capacity b'.queue
     pub queue : QueueKept n q b'.queue
     pub right : n.sound q → Right m n b'
 
@@ -40,6 +44,7 @@ module _ {S Q : Type 0} (m : structures.Meaning S) (n : queues.Meaning Q Stamp) 
     pub there : m.roster b'.structure v ≡ course
     pub others : (k : ℕ) → (k ≢ v) → m.roster b'.structure k ≡ m.roster b.structure k
     pub clock : b'.clock ≡ b.clock
+    pub capacity : b'.capacity ≡ b.capacity
     pub total : b'.total ≡ b.total
     pub queue : QueueKept n b.queue b'.queue
     pub right : Right m n b → Right m n b'
@@ -61,6 +66,7 @@ module _ {S Q : Type 0} (m : structures.Meaning S) (n : queues.Meaning Q Stamp) 
     pub onward : earlier to (stamp_of b.clock) ≡ false
     pub roster : (v : ℕ) → m.roster b'.structure v ≡ m.roster b.structure v
     pub clock : stamp_of b'.clock ≡ to
+    pub capacity : b'.capacity ≡ b.capacity
     pub added : b'.total ≡ min (b.total + mends) (2 ^ 64 - 1)
     pub queue : QueueKept n b.queue b'.queue
     pub passed : Right m n b → Passed b b' to mends rows
@@ -73,11 +79,6 @@ module _ {S Q : Type 0} (m : structures.Meaning S) (n : queues.Meaning Q Stamp) 
   Does b (Steer number speed) mends rows b' = (mends ≡ 0) × Changed b b' number (changed_by (at_speed speed b.clock.seconds) (m.roster b.structure number))
   Does b (Advance s n d) mends rows b' = Moved b b' (goal s n d) mends rows
 
-  -- the course that a change of course gives a vessel, or why it is refused
-  abbrev pub GivesCourse : Board S Q → ℕ → ℤ → Result Course Refusal → Type 0
-  GivesCourse b v speed (Ok c) = (refusal m n b (Steer v speed) 0 ≡ None) × (changed_by (at_speed speed b.clock.seconds) (m.roster b.structure v) ≡ Some c)
-  GivesCourse b v speed (Err e) = refusal m n b (Steer v speed) 0 ≡ Some e
-
   -- a call comes out as the table of refusals says: a refused one leaves everything as it was
   abbrev pub Comes : Board S Q → Call → ℕ → Outcome → List Row → Board S Q → Type 0
   Comes b call lent (Accepted mends) rows b' = (refusal m n b call lent ≡ None) × Does b call mends rows b'
@@ -87,14 +88,15 @@ module _ {S Q : Type 0} (m : structures.Meaning S) (n : queues.Meaning Q Stamp) 
   abbrev pub Happened : Board S Q → Event → Board S Q → Type 0
   Happened b e b' = Comes b e.call e.lent e.outcome e.rows b'
 
--- the outcome of a call, by its answer
+-- the outcome of a call that does not mend, by its answer
 abbrev pub done : Result Unit Refusal → Outcome
 done (Ok u) = Accepted 0
 done (Err e) = Refused e
 
-abbrev pub mended : Result ℕ Refusal → Outcome
-mended (Ok mends) = Accepted mends
-mended (Err e) = Refused e
+-- the outcome of an advance, by its answer
+abbrev pub advanced : Result ℕ Refusal → Outcome
+advanced (Ok mends) = Accepted mends
+advanced (Err e) = Refused e
 
 -- the event of a call that is given no rows
 abbrev pub plain_event : Call → Outcome → Event

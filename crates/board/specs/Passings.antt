@@ -8,9 +8,8 @@ use Rattle.fairway.specs.declared.course.Course.{Course}
 use Rattle.fairway.specs.declared.stamp.Stamp.{Stamp}
 use Rattle.kinetic.specs.Structures as structures
 use Rattle.kinetic.specs.Structures.{NoneDue}
-use Rattle.board.specs.Tickets.{Tickets}
+use Rattle.board.specs.Tickets.{Ticket, limit_of, Tickets}
 use Rattle.board.specs.declared.call.Row.{Row}
-use Rattle.fairway.specs.Orders.{pair}
 
 -- the row of a pair that draws level at an instant
 abbrev pub row_of : Stamp → Course → Course → Row
@@ -35,7 +34,7 @@ pub record RowRight (roster : ℕ → Option Course) (from to : Stamp) (row : Ro
 pub data Passings {S : Type 0} (m : structures.Meaning S) (t limit : Stamp) (s : S) : Stamp → List Row → S → Type 0 where
   none : Passings m t limit s t [] s
   more : {u : Stamp} {rows : List Row} {s' s'' : S} (i : ℕ) (r f : Course) (at : Stamp) → Passings m t limit s u rows s'
-      → m.certificate s' i ≡ Some (pair r f) → level r f ≡ Some at → earlier t at ≡ true → earlier at u ≡ false → earlier limit at ≡ false
+      → m.certificate s' i ≡ Some (r, f) → level r f ≡ Some at → earlier t at ≡ true → earlier at u ≡ false → earlier limit at ≡ false
       → ((v : ℕ) → m.roster s'' v ≡ m.roster s' v) → m.mended r f s' s''
       → Passings m t limit s at (rows ++ (row_of at r f ∷ [])) s''
 
@@ -45,7 +44,7 @@ pub record Written (count : ℕ) (old rows : List Row) : Type 0 where
   pub within : count ≤ length old
   pub beyond : (k : ℕ) (d : Row) → count ≤ k → slice_index_or rows k d ≡ slice_index_or old k d
 
-module _ {S Q : Type 0} (m : structures.Meaning S) (n : queues.Meaning Q Stamp) where
+module _ {S Q : Type 0} (m : structures.Meaning S) (n : queues.Meaning Q Ticket) where
   -- on the way of an advance, at u: the structure stands, with its tickets in the queue
   pub record Midway (u : Stamp) (s : S) (q : Q) : Type 0 where
     pub below_one : BelowOne u
@@ -59,7 +58,7 @@ module _ {S Q : Type 0} (m : structures.Meaning S) (n : queues.Meaning Q Stamp) 
     pub number : ℕ
     pub rear : Course
     pub front : Course
-    pub pair : m.certificate s number ≡ Some (pair rear front)
+    pub pair : m.certificate s number ≡ Some (rear, front)
     pub meets : level rear front ≡ Some row.at
     pub rear_is : row.rear ≡ rear.number
     pub front_is : row.front ≡ front.number
@@ -73,7 +72,21 @@ module _ {S Q : Type 0} (m : structures.Meaning S) (n : queues.Meaning Q Stamp) 
   -- a mend, or none where no pair whose rear is faster draws level up to the limit
   abbrev pub MendOrNone : Stamp → Stamp → S → S → Q → Option Row → Type 0
   MendOrNone u limit s s' q' (Some row) = NextMend u limit s s' q' row
-  MendOrNone u limit s s' q' None = (s' ≡ s) × Midway u s q' × ((i : ℕ) (r f : Course) (at : Stamp) → m.certificate s i ≡ Some (pair r f) → level r f ≡ Some at → earlier limit at ≡ true)
+  MendOrNone u limit s s' q' None =
+      (s' ≡ s) × Midway u s q' × ((i : ℕ) (r f : Course) (at : Stamp) → m.certificate s i ≡ Some (r, f) → level r f ≡ Some at → earlier limit at ≡ true)
+
+  -- what mend_next answers on the way of an advance to an instant whose limit it is given
+  abbrev pub MendsNext : Stamp → Stamp → Ticket → S → S → Q → Q → Option Row → Type 0
+  MendsNext u to limit s s' q q' answer = limit ≡ limit_of to → Midway u s q → MendOrNone u to s s' q' answer
+
+  -- the start of an advance from u to an instant, with its limit and so many rows
+  pub record Begins (u to : Stamp) (limit : Ticket) (s : S) (q : Q) (lent : ℕ) : Type 0 where
+    pub midway : Midway u s q
+    pub none_due : NoneDue m (time_of u) s
+    pub enough : m.load s ≤ lent
+    pub below_one : BelowOne to
+    pub onward : earlier to u ≡ false
+    pub limit_is : limit ≡ limit_of to
 
   -- all that is due up to the limit is mended
   pub record Arrived (u limit : Stamp) (s s' : S) (q' : Q) (count : ℕ) (rows : List Row) : Type 0 where

@@ -5,14 +5,14 @@ use Rattle.fairway.specs.Instants.{stamp_of}
 use Rattle.fairway.specs.Rosters.{course_of}
 use Rattle.fairway.specs.Stamps.{time_of}
 use Rattle.fairway.specs.declared.instant.Instant.{Instant}
-use Rattle.fairway.specs.declared.stamp.Stamp.{Stamp}
 use Rattle.kinetic.specs.Structures as structures
 use Rattle.kinetic.specs.Structures.{Front, vessels}
 use Rattle.board.specs.Books.{Log, book, sum_since}
 use Rattle.board.specs.History.{Past}
+use Rattle.board.specs.Tickets.{Ticket}
 use Rattle.board.specs.declared.board.Board.{Board}
 
-module _ {S Q : Type 0} (m : structures.Meaning S) (n : queues.Meaning Q Stamp) where
+module _ {S Q : Type 0} (m : structures.Meaning S) (n : queues.Meaning Q Ticket) where
   -- the clock is the book's
   pub record ClockAnswer (b : Board S Q) (answer : Instant) : Type 0 where
     pub value : answer ≡ b.clock

@@ -1,8 +1,12 @@
 -- What comes of a call by the plain book alone, on a board over the sorted list.
-use Rattle.std.specs.Prelude.{◌≡◌, ℕ, [], ◌∷◌, length, Some, None, Option}
-use Rattle.fairway.specs.Orders.{load, order, turned}
+use Rattle.std.specs.Prelude.{◌≡◌, ℕ, ◌&&◌, List, [], ◌∷◌, length, count_by, Some, None, Option}
+use Rattle.fairway.specs.Behind.{behind}
+use Rattle.fairway.specs.Courses.{faster}
+use Rattle.fairway.specs.Orders.{twos, turned}
 use Rattle.fairway.specs.Rosters.{course_of}
 use Rattle.fairway.specs.Stamps.{time_of}
+use Rattle.fairway.specs.Times.{Time}
+use Rattle.fairway.specs.declared.course.Course.{Course}
 use Rattle.board.specs.Boards.{Facts, refusal_of}
 use Rattle.board.specs.Books.{Book, Log, book, goal}
 use Rattle.board.specs.declared.call.Call.{Call}
@@ -11,19 +15,22 @@ use Rattle.board.specs.declared.call.Outcome.{Outcome}
 use Rattle.board.specs.declared.call.Outcome.TheVariants.{Accepted, Refused}
 use Rattle.board.specs.declared.refusal.Refusal.{Refusal}
 
--- The facts of the book, of a board with a queue of this capacity. The load is the number of pairs whose rear is the
--- faster.
+-- how many pairs of a roster have the faster one behind at t
+abbrev pub pairs_to_pass : Time → List Course → ℕ
+pairs_to_pass t roster = count_by (λ p. behind t p.rear p.front && faster p.rear p.front) (twos roster)
+
+-- the facts of the book, of a board with a queue of this capacity
 abbrev pub book_facts : ℕ → Book → Facts
 book_facts capacity k =
     record {
       clock = k.clock;
       roster = course_of k.roster;
       count = length k.roster;
-      load = load (order (time_of k.clock) k.roster);
+      load = pairs_to_pass (time_of k.clock) k.roster;
       capacity = capacity;
     }
 
--- the same table, over the book
+-- why the book refuses a call that is lent so many rows, or none: the board's table over the facts of the book
 abbrev pub refusal_by_book : ℕ → ℕ → Book → Call → Option Refusal
 refusal_by_book capacity lent k call = refusal_of (book_facts capacity k) call lent
 

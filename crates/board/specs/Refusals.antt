@@ -2,8 +2,8 @@
 use Rattle.std.specs.Prelude.{ℕ}
 use Rattle.board.specs.declared.refusal.Refusal.{Refusal}
 use Rattle.board.specs.declared.refusal.Refusal.TheVariants.{NumberZero, OutOfRange, ClockHasFraction, AlreadyAboard, Full, UnknownVessel, NoSuchInstant, Early, FewRows, SmallQueue}
-use Rattle.kinetic.specs.declared.refusal.Refusal.{Refusal as StructureRefusal}
-use Rattle.kinetic.specs.declared.refusal.Refusal.TheVariants as structure
+use Rattle.fairway.specs.declared.refusal.Refusal.{Refusal as InstantRefusal}
+use Rattle.fairway.specs.declared.refusal.Refusal.TheVariants as instant
 
 abbrev pub refusal_number : Refusal → ℕ
 refusal_number NumberZero = 1
@@ -17,11 +17,6 @@ refusal_number Early = 8
 refusal_number FewRows = 9
 refusal_number SmallQueue = 10
 
--- a structure's refusal as the board's
-abbrev pub of_structure : StructureRefusal → Refusal
-of_structure structure.NumberZero = NumberZero
-of_structure structure.OutOfRange = OutOfRange
-of_structure structure.AlreadyAboard = AlreadyAboard
-of_structure structure.Full = Full
-of_structure structure.UnknownVessel = UnknownVessel
-of_structure structure.NotDue = UnknownVessel
+-- the refusal of numbers that are no instant, as the board's
+abbrev pub of_instant : InstantRefusal → Refusal
+of_instant instant.NoSuchInstant = NoSuchInstant

@@ -5,12 +5,18 @@ ghost use Rattle.board.specs.Boards.{speed_out, position_out, entry_out};
 
 use fairway::course::Course;
 
+// The greatest speed in size, in centimetres a second.
+const MOST_SPEED: i16 = 1000;
+
+// The greatest position at which a vessel enters in size, in centimetres.
+const MOST_POSITION: i32 = 100_000_000;
+
 // Whether a speed is above 1,000 in size.
 #[tactic(auto, unfolding(crate::specs::Boards::speed_out))]
 pub fn is_speed_out(speed: i16) -> bool
     ensures { result ≡ speed_out speed }
 {
-    !(-1000..=1000).contains(&speed)
+    !(-MOST_SPEED..=MOST_SPEED).contains(&speed)
 }
 
 // Whether a position is above 100,000,000 in size.
@@ -18,7 +24,7 @@ pub fn is_speed_out(speed: i16) -> bool
 pub fn is_position_out(position: i32) -> bool
     ensures { result ≡ position_out position }
 {
-    !(-100_000_000..=100_000_000).contains(&position)
+    !(-MOST_POSITION..=MOST_POSITION).contains(&position)
 }
 
 // The course of a vessel that is at a position at a whole second.

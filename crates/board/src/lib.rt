@@ -1,3 +1,6 @@
+//! The order board: the vessels on a waterway, kept in order while the clock moves, over any kinetic structure and any
+//! event queue.
+
 #![tactic(auto)]
 
 pub mod board;
@@ -11,4 +14,5 @@ mod passing;
 mod perform;
 mod questions;
 pub mod refusal;
-mod tickets;
+mod refusals;
+pub mod tickets;

@@ -1,14 +1,15 @@
 ghost use Rattle.std.specs.Prelude.{◌≡◌};
 ghost use Rattle.fairway.specs.Instants.{value};
-ghost use Rattle.board.specs.ListQuestions.{VesselAnswer, OrderAnswer, RankAnswer, PositionAnswer, AheadAnswer, BehindAnswer, position_of, gap_of, front_neighbour, rear_neighbour};
+ghost use Rattle.board.specs.ListQuestions.{VesselAnswer, OrderAnswer, RankAnswer, PositionAnswer, NeighbourAnswer, position_of, gap_of, neighbour};
+ghost use Rattle.board.specs.declared.list.Side.TheVariants.{Ahead, Behind};
 
 use crate::board::Board;
-use crate::list::{Length, Neighbour};
+use crate::list::{Length, Neighbour, Side};
 use crate::refusal::Refusal;
+use crate::tickets::Ticket;
 use event_queue::queue::Queue;
 use fairway::course::Course;
 use fairway::instant::Instant;
-use fairway::stamp::Stamp;
 use kinetic::structure::Structure;
 use sorted_list::list::SortedList;
 
@@ -32,32 +33,26 @@ fn gap_of(rear: Course, front: Course, at: Instant) -> Length
     }
 }
 
-// The vessel in front of a vessel, if there is one, as its neighbour.
-fn front_neighbour(own: Course, front: Option<Course>, at: Instant) -> Option<Neighbour>
-    ensures { result ≡ front_neighbour (value at) own front }
+// The vessel next on a side of a vessel, if there is one, as its neighbour.
+fn neighbour(side: Side, own: Course, next: Option<Course>, at: Instant) -> Option<Neighbour>
+    ensures { result ≡ neighbour side (value at) own next }
 {
-    let front = front?;
+    let next = next?;
+    let gap = match side {
+        Side::Ahead => gap_of(own, next, at),
+        Side::Behind => gap_of(next, own, at),
+    };
     Some(Neighbour {
-        number: front.number,
-        gap: gap_of(own, front, at),
+        number: next.number,
+        gap,
     })
 }
 
-// The vessel behind a vessel, if there is one, as its neighbour.
-fn rear_neighbour(own: Course, rear: Option<Course>, at: Instant) -> Option<Neighbour>
-    ensures { result ≡ rear_neighbour (value at) own rear }
-{
-    let rear = rear?;
-    Some(Neighbour {
-        number: rear.number,
-        gap: gap_of(rear, own, at),
-    })
-}
-
-impl<Q: Queue<Key = Stamp> + Drop> Board<SortedList, Q> {
+// Each question on a vessel finds it first. The list refuses no question on a vessel aboard: each `unreachable!` is proved.
+impl<Q: Queue<Key = Ticket> + Drop> Board<SortedList, Q> {
     // The course of a vessel aboard.
     fn vessel(&self, number: u16) -> Result<Course, Refusal>
-        ensures { VesselAnswer Q.Queue.means self.now number result }
+        ensures { VesselAnswer Q.means self.now number result }
     {
         if number == 0 {
             return Err(Refusal::NumberZero);
@@ -65,44 +60,59 @@ impl<Q: Queue<Key = Stamp> + Drop> Board<SortedList, Q> {
         self.structure.course(number).ok_or(Refusal::UnknownVessel)
     }
 
-    // The courses from rear to front.
+    /// The courses from rear to front.
     pub fn order(&self) -> &[Course]
-        ensures { OrderAnswer Q.Queue.means self.now result.now }
+        ensures { OrderAnswer Q.means self.now result.now }
     {
         self.structure.courses()
     }
 
-    // The rank of a vessel: one more than the number of vessels in front of it. Refused where the number is 0 or
-    // the vessel is not aboard, as are the questions below.
+    /// The rank of a vessel: one more than the number of vessels in front of it.
+    ///
+    /// Refused where the number is 0 (1) or the vessel is not aboard (6).
     pub fn rank(&self, number: u16) -> Result<usize, Refusal>
-        ensures { RankAnswer Q.Queue.means self.now number result }
+        ensures { RankAnswer Q.means self.now number result }
     {
-        Ok(self.structure.rank(number, self.clock.stamp())?)
+        self.vessel(number)?;
+        let Ok(rank) = self.structure.rank(number, self.clock.stamp()) else {
+            unreachable!()
+        };
+        Ok(rank)
     }
 
-    // The position of a vessel at the clock.
+    /// The position of a vessel at the clock.
+    ///
+    /// Refused where the number is 0 (1) or the vessel is not aboard (6).
     pub fn position(&self, number: u16) -> Result<Length, Refusal>
-        ensures { PositionAnswer Q.Queue.means self.now number result }
+        ensures { PositionAnswer Q.means self.now number result }
     {
         let own = self.vessel(number)?;
         Ok(position_of(own, self.clock))
     }
 
-    // The vessel next in front of a vessel, and the gap between the two; or none.
+    /// The vessel next in front of a vessel, and the gap between the two; or none.
+    ///
+    /// Refused where the number is 0 (1) or the vessel is not aboard (6).
     pub fn ahead(&self, number: u16) -> Result<Option<Neighbour>, Refusal>
-        ensures { AheadAnswer Q.Queue.means self.now number result }
+        ensures { NeighbourAnswer Q.means self.now Ahead number result }
     {
         let own = self.vessel(number)?;
-        let front = self.structure.ahead(number)?;
-        Ok(front_neighbour(own, front, self.clock))
+        let Ok(front) = self.structure.ahead(number) else {
+            unreachable!()
+        };
+        Ok(neighbour(Side::Ahead, own, front, self.clock))
     }
 
-    // The vessel next behind a vessel, and the gap between the two; or none.
+    /// The vessel next behind a vessel, and the gap between the two; or none.
+    ///
+    /// Refused where the number is 0 (1) or the vessel is not aboard (6).
     pub fn behind(&self, number: u16) -> Result<Option<Neighbour>, Refusal>
-        ensures { BehindAnswer Q.Queue.means self.now number result }
+        ensures { NeighbourAnswer Q.means self.now Behind number result }
     {
         let own = self.vessel(number)?;
-        let rear = self.structure.astern(number)?;
-        Ok(rear_neighbour(own, rear, self.clock))
+        let Ok(rear) = self.structure.astern(number) else {
+            unreachable!()
+        };
+        Ok(neighbour(Side::Behind, own, rear, self.clock))
     }
 }

@@ -2,28 +2,31 @@ ghost use Rattle.std.specs.Prelude.{◌≡◌, ℕ, ◌<◌, ◌≤◌, Bool, tr
 ghost use Rattle.fairway.specs.Stamps.{earlier, BelowOne, time_of};
 ghost use Rattle.fairway.specs.declared.stamp.Stamp.{Stamp as TimeStamp};
 ghost use Rattle.kinetic.specs.Structures.{NoneDue};
-ghost use Rattle.board.specs.Passings.{Midway, MendOrNone, Arrived, Written};
+ghost use Rattle.board.specs.Passings.{MendsNext, Begins, Arrived, Written};
 ghost use Rattle.board.specs.Tickets.{QueueKept};
 
 use crate::call::Row;
-use crate::tickets::{is_named, renew, renew_all};
+use crate::tickets::{Ticket, instant_of, is_named, renew, renew_all};
 use event_queue::queue::Queue;
-use fairway::pair::Pair;
 use fairway::stamp::Stamp;
 use kinetic::structure::Structure;
 
-// Mends the certificate whose ticket the queue hands out, if there is one not after the limit.
-pub fn mend_next<S: Structure, Q: Queue<Key = Stamp>>(
+// Mends the certificate whose ticket the queue hands out, if there is one not after the limit. A queue that is not sound
+// may hand out a ticket of a certificate that is not there or not due: it counts as none.
+pub fn mend_next<S: Structure, Q: Queue<Key = Ticket>>(
     structure: &mut S,
     queue: &mut Q,
-    limit: Stamp,
+    limit: Ticket,
 ) -> Option<Row>
-    ensures mend { (u : TimeStamp) → Midway S.Structure.means Q.Queue.means u structure.old queue.old → MendOrNone S.Structure.means Q.Queue.means u limit structure.old structure.new queue.new result }
-    ensures roster { (v : ℕ) → S.Structure.means.roster structure.new v ≡ S.Structure.means.roster structure.old v }
-    ensures kept { QueueKept Q.Queue.means queue.old queue.new }
+    ensures mend { (u to : TimeStamp) → MendsNext S.means Q.means u to limit
+        structure.old structure.new queue.old queue.new result }
+    ensures roster { (v : ℕ) →
+        S.means.roster structure.new v ≡ S.means.roster structure.old v }
+    ensures kept { QueueKept Q.means queue.old queue.new }
 {
-    let (number, at) = queue.take(limit)?;
-    let Pair { rear, front } = structure.certificate(number)?;
+    let (number, ticket) = queue.take(limit)?;
+    let at = instant_of(ticket);
+    let (rear, front) = structure.certificate(number)?;
     let named = structure.mend(number, at).ok()?;
     if !is_named(named.as_slice(), number) {
         renew(structure, queue, number);
@@ -36,23 +39,26 @@ pub fn mend_next<S: Structure, Q: Queue<Key = Stamp>>(
     })
 }
 
-// Mends until no ticket is left up to the limit, and answers how often. Each mend writes a row.
-pub fn mend_until<S: Structure, Q: Queue<Key = Stamp>>(
+// Mends until no ticket is left up to the limit or no row is, and answers how often. Each mend writes a row.
+pub fn mend_until<S: Structure, Q: Queue<Key = Ticket>>(
     structure: &mut S,
     queue: &mut Q,
-    limit: Stamp,
+    limit: Ticket,
     rows: &mut [Row],
 ) -> usize
-    ensures arrived { (u : TimeStamp) → Midway S.Structure.means Q.Queue.means u structure.old queue.old → NoneDue S.Structure.means (time_of u) structure.old → S.Structure.means.load structure.old ≤ length rows.old → BelowOne limit → earlier limit u ≡ false → Arrived S.Structure.means Q.Queue.means u limit structure.old structure.new queue.new result rows.new }
+    ensures arrived { (u to : TimeStamp) →
+        Begins S.means Q.means u to limit structure.old queue.old (length rows.old) →
+        Arrived S.means Q.means u to structure.old structure.new queue.new result rows.new }
     ensures written { Written result rows.old rows.new }
-    ensures roster { (v : ℕ) → S.Structure.means.roster structure.new v ≡ S.Structure.means.roster structure.old v }
-    ensures kept { QueueKept Q.Queue.means queue.old queue.new }
+    ensures roster { (v : ℕ) →
+        S.means.roster structure.new v ≡ S.means.roster structure.old v }
+    ensures kept { QueueKept Q.means queue.old queue.new }
 {
     let mut count = 0;
-    while let Some(row) = mend_next(structure, queue, limit) {
-        if count >= rows.len() {
-            break;
-        }
+    while count < rows.len() {
+        let Some(row) = mend_next(structure, queue, limit) else {
+            return count;
+        };
         rows[count] = row;
         count += 1;
     }

@@ -1,5 +1,6 @@
 ghost use Rattle.std.specs.Prelude.{◌≡◌};
 ghost use Rattle.board.specs.Books.{mends_of};
+ghost use Rattle.board.specs.Everywhere.{BookedAlways, ListedAlways};
 ghost use Rattle.board.specs.History.{Adds};
 ghost use Rattle.board.specs.Lines.{Performed};
 ghost use Rattle.board.specs.Outcomes.{done, rows_event};
@@ -8,8 +9,8 @@ ghost use Rattle.board.specs.Passings.{Written};
 use crate::board::Board;
 use crate::call::{Call, Line, Outcome, Row};
 use crate::refusal::Refusal;
+use crate::tickets::Ticket;
 use event_queue::queue::Queue;
-use fairway::stamp::Stamp;
 use kinetic::structure::Structure;
 
 // The outcome of a call that does not mend.
@@ -22,11 +23,12 @@ fn outcome_of(answer: Result<(), Refusal>) -> Outcome
     }
 }
 
-impl<S: Structure + Drop, Q: Queue<Key = Stamp> + Drop> Board<S, Q> {
-    // Does a call, an advance with the rows given, and answers what came of it.
+impl<S: Structure + Drop, Q: Queue<Key = Ticket> + Drop> Board<S, Q> {
+    /// Does a call, an advance with the rows given, and answers what came of it.
     pub fn perform(&mut self, call: Call, rows: &mut [Row]) -> Outcome
-        ensures adds { Adds S.Structure.means Q.Queue.means self.old (rows_event call result rows.new) self.new }
+        ensures adds { Adds S.means Q.means self.old (rows_event call result rows.new) self.new }
         ensures written { Written (mends_of result) rows.old rows.new }
+        ensures listed { ListedAlways Q.means }
     {
         match call {
             Call::Open => {
@@ -51,10 +53,16 @@ impl<S: Structure + Drop, Q: Queue<Key = Stamp> + Drop> Board<S, Q> {
         }
     }
 
-    // Opens the board, does the calls of the lines in turn and writes in each line what came of it. The rows of
-    // the advances stand one after the other; the answer is how many there are.
+    /// Opens the board, does the calls of the lines in turn and writes in each line what came of it. The rows of the
+    /// advances stand one after the other; the answer is how many there are.
+    ///
+    /// Its contract bears the whole claim: what holds of every board over this structure and this queue that has a past, and
+    /// of every board over the sorted list and this queue.
     pub fn perform_all(&mut self, lines: &mut [Line], rows: &mut [Row]) -> usize
-        ensures { Performed S.Structure.means Q.Queue.means self.old self.new lines.old lines.new rows.old rows.new result }
+        ensures performed { Performed S.means Q.means self.old self.new
+            lines.old lines.new rows.old rows.new result }
+        ensures booked_always { BookedAlways S.means Q.means }
+        ensures listed_always { ListedAlways Q.means }
     {
         self.open();
         let mut used = 0;

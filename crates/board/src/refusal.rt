@@ -1,34 +1,34 @@
 ghost use Rattle.std.specs.Prelude.{◌≡◌};
-ghost use Rattle.board.specs.Refusals.{refusal_number, of_structure};
+ghost use Rattle.board.specs.Refusals.{refusal_number, of_instant};
 
-use kinetic::refusal::Refusal as StructureRefusal;
+use fairway::refusal::Refusal as InstantRefusal;
 
-// Why a board refused a call.
+/// Why a board refused a call, in the order of the numbers, from 1 to 10.
 #[derive(Clone, Copy, PartialEq, Eq, Debug)]
 pub enum Refusal {
-    // the vessel's number is 0
+    /// the vessel's number is 0
     NumberZero,
-    // the position, the base or the speed is out of range
+    /// the position, the base or the speed is out of range
     OutOfRange,
-    // the clock has a fraction
+    /// the clock has a fraction
     ClockHasFraction,
-    // a vessel of that number is aboard already
+    /// a vessel of that number is aboard already
     AlreadyAboard,
-    // 64 vessels are aboard
+    /// 64 vessels are aboard
     Full,
-    // no vessel of that number is aboard
+    /// no vessel of that number is aboard
     UnknownVessel,
-    // the numbers are no instant of the clock
+    /// the numbers are no instant of the clock
     NoSuchInstant,
-    // the instant is earlier than the clock
+    /// the instant is earlier than the clock
     Early,
-    // there are fewer rows than the load
+    /// there are fewer rows than the load
     FewRows,
-    // the queue's capacity is below 64
+    /// the queue's capacity was below 64 when the board was opened
     SmallQueue,
 }
 
-// The refusal's number in the table of refusals.
+/// The refusal's number.
 impl From<Refusal> for u8 {
     ghost from_gives = { λ refusal number. number ≡ refusal_number refusal };
 
@@ -48,19 +48,13 @@ impl From<Refusal> for u8 {
     }
 }
 
-// A structure's refusal of a question on one vessel, as the board's. `NotDue`, which no question gives, has
-// the number of `UnknownVessel`.
-impl From<StructureRefusal> for Refusal {
-    ghost from_gives = { λ refusal own. own ≡ of_structure refusal };
+/// The refusal of numbers that are no instant, as the board's.
+impl From<InstantRefusal> for Refusal {
+    ghost from_gives = { λ refusal own. own ≡ of_instant refusal };
 
-    fn from(refusal: StructureRefusal) -> Refusal {
+    fn from(refusal: InstantRefusal) -> Refusal {
         match refusal {
-            StructureRefusal::NumberZero => Refusal::NumberZero,
-            StructureRefusal::OutOfRange => Refusal::OutOfRange,
-            StructureRefusal::AlreadyAboard => Refusal::AlreadyAboard,
-            StructureRefusal::Full => Refusal::Full,
-            StructureRefusal::UnknownVessel => Refusal::UnknownVessel,
-            StructureRefusal::NotDue => Refusal::UnknownVessel,
+            InstantRefusal::NoSuchInstant => Refusal::NoSuchInstant,
         }
     }
 }

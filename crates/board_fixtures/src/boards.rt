@@ -1,6 +1,7 @@
 use binary_heap::cell::Cell;
 use board::board::Board;
 use board::call::Row;
+use board::tickets::Ticket;
 use event_queue::queue::Queue;
 use fairway::stamp::Stamp;
 use kinetic::structure::Structure;
@@ -10,7 +11,7 @@ use std::alloc::{AllocError, Global};
 use tournament::tournament::Tournament;
 
 // Cells for a binary heap.
-pub const CELLS: [Cell<Stamp>; 64] = [Cell {
+pub const CELLS: [Cell<Ticket>; 64] = [Cell {
     key: None,
     slot: 0,
     ticket: 0,
@@ -22,7 +23,7 @@ pub const CELLS: [Cell<Stamp>; 64] = [Cell {
 }; 64];
 
 // Cells for a pairing heap.
-pub const NODES: [Node<Stamp>; 64] = [Node {
+pub const NODES: [Node<Ticket>; 64] = [Node {
     key: None,
     child: None,
     next: None,
@@ -46,7 +47,7 @@ pub fn blank_rows(alloc: Global, count: usize) -> Result<Vec<Row>, AllocError> {
 }
 
 // A board over a sorted list.
-pub fn list<Q: Queue<Key = Stamp> + Drop>(
+pub fn list<Q: Queue<Key = Ticket> + Drop>(
     alloc: Global,
     queue: Q,
 ) -> Result<Board<SortedList, Q>, AllocError> {
@@ -54,6 +55,6 @@ pub fn list<Q: Queue<Key = Stamp> + Drop>(
 }
 
 // A board over a tournament.
-pub fn tournament<Q: Queue<Key = Stamp> + Drop>(queue: Q) -> Board<Tournament, Q> {
+pub fn tournament<Q: Queue<Key = Ticket> + Drop>(queue: Q) -> Board<Tournament, Q> {
     Board::new(Tournament::new(), queue)
 }

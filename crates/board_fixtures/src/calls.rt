@@ -1,8 +1,8 @@
 use crate::told::{state_and_load, told};
 use board::board::Board;
 use board::call::{Call, Row};
+use board::tickets::Ticket;
 use event_queue::queue::Queue;
-use fairway::stamp::Stamp;
 use kinetic::structure::Structure;
 
 // A call in one line of a table.
@@ -39,7 +39,7 @@ impl From<ShortCall> for Call {
 }
 
 // Performs a call, and answers how many mends it has, or the number of the refusal.
-pub fn perform<S: Structure + Drop, Q: Queue<Key = Stamp> + Drop>(
+pub fn perform<S: Structure + Drop, Q: Queue<Key = Ticket> + Drop>(
     board: &mut Board<S, Q>,
     call: ShortCall,
     rows: &mut [Row],
@@ -48,7 +48,7 @@ pub fn perform<S: Structure + Drop, Q: Queue<Key = Stamp> + Drop>(
 }
 
 // Does a call by the board's method of its name, and answers the same.
-pub fn do_by_name<S: Structure + Drop, Q: Queue<Key = Stamp> + Drop>(
+pub fn do_by_name<S: Structure + Drop, Q: Queue<Key = Ticket> + Drop>(
     board: &mut Board<S, Q>,
     call: ShortCall,
     rows: &mut [Row],
@@ -68,7 +68,7 @@ pub fn do_by_name<S: Structure + Drop, Q: Queue<Key = Stamp> + Drop>(
 
 // Does calls in turn, each by the board's method of its name, up to the first that does not come to what it is to, or
 // that is refused and changes something: that one's place is answered, or none.
-pub fn first_amiss<S: Structure + Drop, Q: Queue<Key = Stamp> + Drop>(
+pub fn first_amiss<S: Structure + Drop, Q: Queue<Key = Ticket> + Drop>(
     board: &mut Board<S, Q>,
     steps: &[Step],
     rows: &mut [Row],

@@ -1,7 +1,7 @@
 use board::board::Board;
 use board::refusal::Refusal;
+use board::tickets::Ticket;
 use event_queue::queue::Queue;
-use fairway::stamp::Stamp;
 use kinetic::structure::Structure;
 
 // Where 64 vessels begin.
@@ -23,7 +23,7 @@ fn position(start: Start, number: u16) -> i32 {
 }
 
 // The vessels 1 to 64 enter, each slower by one than the one behind it: every two will pass.
-pub fn enter_all<S: Structure + Drop, Q: Queue<Key = Stamp> + Drop>(
+pub fn enter_all<S: Structure + Drop, Q: Queue<Key = Ticket> + Drop>(
     board: &mut Board<S, Q>,
     start: Start,
 ) -> Result<(), Refusal> {

@@ -1,6 +1,7 @@
+//! What the examples of boards share: boards over lent memory, calls in short, and what is told of them in numbers.
+
 #![tactic(auto)]
 
-// What the examples of boards share.
 pub mod boards;
 pub mod calls;
 pub mod crowd;

@@ -1,7 +1,7 @@
 use board::board::Board;
 use board::call::{Outcome, Row};
+use board::tickets::Ticket;
 use event_queue::queue::Queue;
-use fairway::stamp::Stamp;
 use kinetic::structure::Structure;
 
 // An instant's seconds, numerator and denominator.
@@ -17,7 +17,7 @@ pub struct State {
 }
 
 // What a board tells.
-pub fn state_of<S: Structure + Drop, Q: Queue<Key = Stamp> + Drop>(board: &Board<S, Q>) -> State {
+pub fn state_of<S: Structure + Drop, Q: Queue<Key = Ticket> + Drop>(board: &Board<S, Q>) -> State {
     let clock = board.clock();
     State {
         clock: (clock.seconds(), clock.numerator(), clock.denominator()),
@@ -28,7 +28,7 @@ pub fn state_of<S: Structure + Drop, Q: Queue<Key = Stamp> + Drop>(board: &Board
 }
 
 // The same with its load.
-pub fn state_and_load<S: Structure + Drop, Q: Queue<Key = Stamp> + Drop>(
+pub fn state_and_load<S: Structure + Drop, Q: Queue<Key = Ticket> + Drop>(
     board: &Board<S, Q>,
 ) -> (State, usize) {
     (state_of(board), board.load())

@@ -1,11 +1,11 @@
 use binary_heap::heap::BinaryHeap;
 use board::board::Board;
+use board::tickets::Ticket;
 use board_fixtures::boards::{CELLS, NODES, list, tournament};
 use board_fixtures::calls::ShortCall::{Advance, Enter, Leave};
 use board_fixtures::calls::{Step, first_amiss};
 use board_fixtures::told::{State, state_of};
 use event_queue::queue::Queue;
-use fairway::stamp::Stamp;
 use kinetic::structure::Structure;
 use pairing_heap::heap::PairingHeap;
 use std::process::Abort;
@@ -34,7 +34,7 @@ const ONE_LEAVES: [Step; 4] = [
     (Enter(66, 0, 0), Err(3)),
 ];
 
-fn check_full<S: Structure + Drop, Q: Queue<Key = Stamp> + Drop>(
+fn check_full<S: Structure + Drop, Q: Queue<Key = Ticket> + Drop>(
     rt: &impl Abort,
     mut board: Board<S, Q>,
 ) {

@@ -1,6 +1,7 @@
+//! Examples of boards that are lent few rows or a small queue, or are full, and of the tickets that a queue holds.
+
 #![tactic(auto)]
 
-// Boards that are lent few rows or a small queue, or are full, and the tickets that a queue holds.
 #[cfg(test)]
 mod full;
 #[cfg(test)]

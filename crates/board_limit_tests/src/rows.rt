@@ -1,6 +1,7 @@
 use binary_heap::heap::BinaryHeap;
 use board::board::Board;
 use board::call::Row;
+use board::tickets::Ticket;
 use board_fixtures::boards::{BLANK_ROW, CELLS, NODES, list, tournament};
 use board_fixtures::calls::ShortCall::{Advance, Enter, Leave};
 use board_fixtures::calls::{Step, first_amiss};
@@ -38,7 +39,7 @@ const BETWEEN: State = State {
     total: 0,
 };
 
-fn check_few_rows<S: Structure + Drop, Q: Queue<Key = Stamp> + Drop>(
+fn check_few_rows<S: Structure + Drop, Q: Queue<Key = Ticket> + Drop>(
     rt: &impl Abort,
     mut board: Board<S, Q>,
 ) {
@@ -70,7 +71,7 @@ const PASSED: [Row; 1] = [Row {
 }];
 
 // On the list, whose load is the number of pairs that will pass, one row is enough for one passing.
-fn check_one_row<Q: Queue<Key = Stamp> + Drop>(rt: &impl Abort, mut board: Board<SortedList, Q>) {
+fn check_one_row<Q: Queue<Key = Ticket> + Drop>(rt: &impl Abort, mut board: Board<SortedList, Q>) {
     let mut rows = [BLANK_ROW];
     assert_eq!(rt; first_amiss(&mut board, &WILL_PASS, &mut []), None);
     assert_eq!(rt;

@@ -1,10 +1,10 @@
 use binary_heap::heap::BinaryHeap;
 use board::board::Board;
+use board::tickets::Ticket;
 use board_fixtures::boards::{CELLS, NODES, blank_rows, list, tournament};
 use board_fixtures::calls::ShortCall::{Advance, Enter, Leave, Open, Steer};
 use board_fixtures::calls::{Step, perform};
 use event_queue::queue::Queue;
-use fairway::stamp::Stamp;
 use kinetic::structure::Structure;
 use pairing_heap::heap::PairingHeap;
 use std::alloc::Global;
@@ -25,7 +25,7 @@ const SMALL_QUEUE: [Step; 9] = [
 ];
 
 // Over a queue that is too small nobody enters, and everything else is as ever.
-fn check_small<S: Structure + Drop, Q: Queue<Key = Stamp> + Drop>(
+fn check_small<S: Structure + Drop, Q: Queue<Key = Ticket> + Drop>(
     rt: &impl Abort,
     alloc: Global,
     mut board: Board<S, Q>,

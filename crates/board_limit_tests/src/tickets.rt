@@ -1,11 +1,11 @@
 use binary_heap::cell::Cell;
 use binary_heap::heap::BinaryHeap;
 use board::board::Board;
+use board::tickets::Ticket;
 use board_fixtures::boards::{CELLS, NODES, blank_rows, list, tournament};
 use board_fixtures::calls::ShortCall::{Advance, Enter, Leave, Open, Steer};
 use board_fixtures::calls::{Step, perform};
 use event_queue::queue::Queue;
-use fairway::stamp::Stamp;
 use kinetic::structure::Structure;
 use pairing_heap::heap::PairingHeap;
 use pairing_heap::node::Node;
@@ -82,7 +82,7 @@ const TICKETS: [Tickets; 8] = [
 ];
 
 // Does the calls, and lets the board go.
-fn check_steps<S: Structure + Drop, Q: Queue<Key = Stamp> + Drop>(
+fn check_steps<S: Structure + Drop, Q: Queue<Key = Ticket> + Drop>(
     rt: &impl Abort,
     alloc: Global,
     mut board: Board<S, Q>,
@@ -96,12 +96,12 @@ fn check_steps<S: Structure + Drop, Q: Queue<Key = Stamp> + Drop>(
 }
 
 // How many cells hold a key.
-fn keyed_cells(cells: &[Cell<Stamp>]) -> usize {
+fn keyed_cells(cells: &[Cell<Ticket>]) -> usize {
     cells.iter().filter(|cell| cell.key.is_some()).count()
 }
 
 // How many nodes hold a key.
-fn keyed_nodes(nodes: &[Node<Stamp>]) -> usize {
+fn keyed_nodes(nodes: &[Node<Ticket>]) -> usize {
     nodes.iter().filter(|node| node.key.is_some()).count()
 }
 

@@ -1,6 +1,7 @@
+//! Examples of what a board over the sorted list answers: the order, its vessels, and 64 that all pass each other.
+
 #![tactic(auto)]
 
-// What a board over the sorted list answers of the order, of its vessels, and of 64 that all pass each other.
 #[cfg(test)]
 mod positions;
 #[cfg(test)]

@@ -2,11 +2,11 @@ use binary_heap::heap::BinaryHeap;
 use board::board::Board;
 use board::list::{Length, Neighbour};
 use board::refusal::Refusal;
+use board::tickets::Ticket;
 use board_fixtures::boards::{BLANK_ROW, CELLS, NODES, list};
 use board_fixtures::calls::ShortCall::{Advance, Enter};
 use board_fixtures::calls::{Step, do_by_name, first_amiss};
 use event_queue::queue::Queue;
-use fairway::stamp::Stamp;
 use pairing_heap::heap::PairingHeap;
 use sorted_list::list::SortedList;
 use std::process::Abort;
@@ -30,7 +30,7 @@ fn neighbour(number: u16, halves: i128) -> Option<Neighbour> {
 type Told = (usize, Length, Option<Neighbour>, Option<Neighbour>);
 
 // The same of a vessel by its number.
-fn told_of<Q: Queue<Key = Stamp> + Drop>(
+fn told_of<Q: Queue<Key = Ticket> + Drop>(
     board: &Board<SortedList, Q>,
     number: u16,
 ) -> Result<Told, Refusal> {
@@ -47,7 +47,7 @@ const HALVES: [Step; 3] = [
 ];
 
 // One is half a centimetre behind the other.
-fn check_halves<Q: Queue<Key = Stamp> + Drop>(
+fn check_halves<Q: Queue<Key = Ticket> + Drop>(
     rt: &impl Abort,
     mut board: Board<SortedList, Q>,
 ) -> Result<(), Fail> {
@@ -71,7 +71,7 @@ fn halves(rt: HostRuntime) -> Result<(), Fail> {
 }
 
 // Checks the order from rear to front, and each vessel's rank and neighbour by it.
-fn check_order<Q: Queue<Key = Stamp> + Drop>(
+fn check_order<Q: Queue<Key = Ticket> + Drop>(
     rt: &impl Abort,
     board: &Board<SortedList, Q>,
     order: &[u16],
@@ -99,7 +99,7 @@ const THREE: [Step; 3] = [
 ];
 
 // The three before and after; and a gap of 0 between level vessels.
-fn check_three<Q: Queue<Key = Stamp> + Drop>(
+fn check_three<Q: Queue<Key = Ticket> + Drop>(
     rt: &impl Abort,
     mut board: Board<SortedList, Q>,
 ) -> Result<(), Fail> {
@@ -135,7 +135,7 @@ fn three(rt: HostRuntime) -> Result<(), Fail> {
 #[test]
 fn refused_questions(rt: HostRuntime) -> Result<(), Fail> {
     let mut cells = CELLS;
-    let mut board: Board<SortedList, BinaryHeap<Stamp>> = list(
+    let mut board: Board<SortedList, BinaryHeap<Ticket>> = list(
         rt.alloc(),
         BinaryHeap::new(&mut cells),
     )?;

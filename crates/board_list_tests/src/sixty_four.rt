@@ -1,6 +1,7 @@
 use binary_heap::heap::BinaryHeap;
 use board::board::Board;
 use board::call::Row;
+use board::tickets::Ticket;
 use board_fixtures::boards::{CELLS, NODES, blank_rows, list};
 use board_fixtures::calls::ShortCall::Advance;
 use board_fixtures::calls::do_by_name;
@@ -56,7 +57,7 @@ const AFTER: State = State {
 };
 
 // On the list each two pass once, and just as many rows are enough. One row less is too few.
-fn check_all_pass<Q: Queue<Key = Stamp> + Drop>(
+fn check_all_pass<Q: Queue<Key = Ticket> + Drop>(
     rt: &impl Abort,
     alloc: Global,
     mut board: Board<SortedList, Q>,

@@ -1,9 +1,9 @@
 use binary_heap::heap::BinaryHeap;
 use board::board::Board;
+use board::tickets::Ticket;
 use board_fixtures::boards::{CELLS, NODES, blank_rows, list, tournament};
 use board_fixtures::crowd::{Start, enter_all};
 use event_queue::queue::Queue;
-use fairway::stamp::Stamp;
 use kinetic::structure::Structure;
 use pairing_heap::heap::PairingHeap;
 use sorted_list::list::SortedList;
@@ -12,7 +12,7 @@ use std::process::Abort;
 use std::test::Fail;
 
 // With 64 vessels that all pass each other, the list and another structure have the same foremost half a second after each.
-fn check_foremost<Q: Queue<Key = Stamp> + Drop, P: Queue<Key = Stamp> + Drop>(
+fn check_foremost<Q: Queue<Key = Ticket> + Drop, P: Queue<Key = Ticket> + Drop>(
     rt: &impl Abort,
     alloc: Global,
     mut board: Board<SortedList, Q>,

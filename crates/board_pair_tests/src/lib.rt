@@ -1,6 +1,7 @@
+//! Examples of the same calls on two boards side by side, over two structures or over two queues.
+
 #![tactic(auto)]
 
-// The same calls on two boards side by side, over two structures or over two queues.
 #[cfg(test)]
 mod draws;
 #[cfg(test)]

@@ -2,12 +2,12 @@ use crate::draws::Draws;
 use binary_heap::heap::BinaryHeap;
 use board::board::Board;
 use board::call::Call;
+use board::tickets::Ticket;
 use board_fixtures::boards::{CELLS, NODES, blank_rows, list, tournament};
 use board_fixtures::told::{same_rows, state_and_load, state_of, told, written};
 use event_queue::queue::Queue;
 use fairway::instant::Instant;
 use fairway::order::{is_sorted, load, turned_pairs};
-use fairway::stamp::Stamp;
 use kinetic::structure::Structure;
 use pairing_heap::heap::PairingHeap;
 use sorted_list::list::SortedList;
@@ -16,7 +16,7 @@ use std::process::Abort;
 use std::test::Fail;
 
 // How many pairs an advance of the list turns, or 0 at any other call.
-fn turned_by<Q: Queue<Key = Stamp> + Drop>(board: &Board<SortedList, Q>, call: Call) -> u128 {
+fn turned_by<Q: Queue<Key = Ticket> + Drop>(board: &Board<SortedList, Q>, call: Call) -> u128 {
     let Call::Advance {
         seconds,
         numerator,
@@ -32,7 +32,7 @@ fn turned_by<Q: Queue<Key = Stamp> + Drop>(board: &Board<SortedList, Q>, call: C
 }
 
 // Whether each vessel of the list is aboard the other structure too, on the same course.
-fn has_all<Q: Queue<Key = Stamp> + Drop, S: Structure>(
+fn has_all<Q: Queue<Key = Ticket> + Drop, S: Structure>(
     board: &Board<SortedList, Q>,
     other: &S,
 ) -> bool {
@@ -41,7 +41,7 @@ fn has_all<Q: Queue<Key = Stamp> + Drop, S: Structure>(
 }
 
 // Whether the clock, how many are aboard, who, and the foremost are the same on both.
-fn is_told_alike<Q: Queue<Key = Stamp> + Drop, S: Structure + Drop, P: Queue<Key = Stamp> + Drop>(
+fn is_told_alike<Q: Queue<Key = Ticket> + Drop, S: Structure + Drop, P: Queue<Key = Ticket> + Drop>(
     one: &Board<SortedList, Q>,
     other: &Board<S, P>,
 ) -> bool {
@@ -52,7 +52,7 @@ fn is_told_alike<Q: Queue<Key = Stamp> + Drop, S: Structure + Drop, P: Queue<Key
 }
 
 // Whether the order and the load of the list are those of its vessels.
-fn is_reckoned_so<Q: Queue<Key = Stamp> + Drop>(board: &Board<SortedList, Q>) -> bool {
+fn is_reckoned_so<Q: Queue<Key = Ticket> + Drop>(board: &Board<SortedList, Q>) -> bool {
     is_sorted(board.order(), board.clock().stamp()) && load(board.order()) == board.load() as u128
 }
 
@@ -60,9 +60,9 @@ fn is_reckoned_so<Q: Queue<Key = Stamp> + Drop>(board: &Board<SortedList, Q>) ->
 // are aboard, who, and the foremost are the same after each. On the list the order and the load are those of its
 // vessels, and an advance answers the pairs that it turns.
 fn check_side_by_side<
-    Q: Queue<Key = Stamp> + Drop,
+    Q: Queue<Key = Ticket> + Drop,
     S: Structure + Drop,
-    P: Queue<Key = Stamp> + Drop,
+    P: Queue<Key = Ticket> + Drop,
 >(
     rt: &impl Abort,
     alloc: Global,
@@ -102,7 +102,7 @@ fn list_and_tournament(rt: HostRuntime) -> Result<(), Fail> {
 }
 
 // Does drawn calls on the list over two queues: the outcomes are the same, and so are the rows but for their order.
-fn check_queues<Q: Queue<Key = Stamp> + Drop, P: Queue<Key = Stamp> + Drop>(
+fn check_queues<Q: Queue<Key = Ticket> + Drop, P: Queue<Key = Ticket> + Drop>(
     rt: &impl Abort,
     alloc: Global,
     mut one: Board<SortedList, Q>,

@@ -1,6 +1,7 @@
 use binary_heap::heap::BinaryHeap;
 use board::board::Board;
 use board::call::{Call, Line, Outcome, Row};
+use board::tickets::Ticket;
 use board_fixtures::boards::{CELLS, NODES, blank_rows, list, tournament};
 use board_fixtures::calls::{Step, perform};
 use board_fixtures::told::{Numbers, same_rows, state_and_load, state_of, told};
@@ -56,7 +57,7 @@ fn lines_of(alloc: Global, steps: &[Step]) -> Result<Vec<Line>, AllocError> {
 }
 
 // Compares what a board tells at the end of an example, but for the total.
-fn check_end<S: Structure + Drop, Q: Queue<Key = Stamp> + Drop>(
+fn check_end<S: Structure + Drop, Q: Queue<Key = Ticket> + Drop>(
     rt: &impl Abort,
     board: &Board<S, Q>,
     example: &Example,
@@ -69,7 +70,7 @@ fn check_end<S: Structure + Drop, Q: Queue<Key = Stamp> + Drop>(
 }
 
 // Does the calls of an example one by one on a board over any structure. A refused call changes nothing.
-fn check_steps<S: Structure + Drop, Q: Queue<Key = Stamp> + Drop>(
+fn check_steps<S: Structure + Drop, Q: Queue<Key = Ticket> + Drop>(
     rt: &impl Abort,
     alloc: Global,
     board: &mut Board<S, Q>,
@@ -90,7 +91,7 @@ fn check_steps<S: Structure + Drop, Q: Queue<Key = Stamp> + Drop>(
 }
 
 // Does the calls of an example all at once on a board over the list: the mends and the rows are as expected too.
-fn check_lines<Q: Queue<Key = Stamp> + Drop>(
+fn check_lines<Q: Queue<Key = Ticket> + Drop>(
     rt: &impl Abort,
     alloc: Global,
     board: &mut Board<SortedList, Q>,
@@ -113,7 +114,7 @@ fn check_lines<Q: Queue<Key = Stamp> + Drop>(
 }
 
 // Does the calls of an example all at once on a board over any structure: the same are refused.
-fn check_all<S: Structure + Drop, Q: Queue<Key = Stamp> + Drop>(
+fn check_all<S: Structure + Drop, Q: Queue<Key = Ticket> + Drop>(
     rt: &impl Abort,
     alloc: Global,
     board: &mut Board<S, Q>,
@@ -131,7 +132,7 @@ fn check_all<S: Structure + Drop, Q: Queue<Key = Stamp> + Drop>(
 }
 
 // Does an example on a board over the list.
-fn check_on_list<Q: Queue<Key = Stamp> + Drop>(
+fn check_on_list<Q: Queue<Key = Ticket> + Drop>(
     rt: &impl Abort,
     alloc: Global,
     mut board: Board<SortedList, Q>,
@@ -142,7 +143,7 @@ fn check_on_list<Q: Queue<Key = Stamp> + Drop>(
 }
 
 // Does an example on a board over any structure.
-fn check_on_any<S: Structure + Drop, Q: Queue<Key = Stamp> + Drop>(
+fn check_on_any<S: Structure + Drop, Q: Queue<Key = Ticket> + Drop>(
     rt: &impl Abort,
     alloc: Global,
     mut board: Board<S, Q>,

@@ -1,6 +1,7 @@
+//! Examples of boards: tables of calls, done over the sorted list and the tournament and over both heaps.
+
 #![tactic(auto)]
 
-// Tables of calls on a board, done over the sorted list and the tournament and over both heaps.
 #[cfg(test)]
 mod examples;
 #[cfg(test)]

@@ -1,3 +1,5 @@
+//! Performs one watch on an order board, and prints what came of each call and what each user asks.
+
 #![tactic(auto)]
 
 mod calls;
@@ -12,6 +14,7 @@ use binary_heap::cell::Cell;
 use binary_heap::heap::BinaryHeap;
 use board::board::Board;
 use board::call::Row;
+use board::tickets::Ticket;
 use fairway::stamp::Stamp;
 use sorted_list::list::SortedList;
 
@@ -39,7 +42,7 @@ fn run(rt: &HostRuntime) -> anyhow::Result<()> {
             denominator_less_one: 0,
         },
     }; 64];
-    let queue: BinaryHeap<Stamp> = BinaryHeap::new(&mut cells);
+    let queue: BinaryHeap<Ticket> = BinaryHeap::new(&mut cells);
     let mut board = Board::new(SortedList::new(rt.alloc())?, queue);
     let mut lines = watch_lines();
     let mut rows = [BLANK; 8];

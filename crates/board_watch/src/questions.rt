@@ -3,9 +3,9 @@ use crate::texts::{PassingsText, RefusalText};
 use board::board::Board;
 use board::list::{Length, Neighbour};
 use board::refusal::Refusal;
+use board::tickets::Ticket;
 use event_queue::queue::Queue;
 use fairway::course::Course;
-use fairway::stamp::Stamp;
 use sorted_list::list::SortedList;
 use std::{fmt, io};
 
@@ -46,7 +46,7 @@ impl fmt::Display for Answers {
 }
 
 // Asks the board all questions on one vessel.
-fn answers_on<Q: Queue<Key = Stamp> + Drop>(
+fn answers_on<Q: Queue<Key = Ticket> + Drop>(
     board: &Board<SortedList, Q>,
     number: u16,
 ) -> Result<Answers, Refusal> {
@@ -59,7 +59,7 @@ fn answers_on<Q: Queue<Key = Stamp> + Drop>(
 }
 
 // Prints the answers on one vessel, or why they are refused.
-fn print_vessel<Q: Queue<Key = Stamp> + Drop>(
+fn print_vessel<Q: Queue<Key = Ticket> + Drop>(
     rt: &impl Print,
     board: &Board<SortedList, Q>,
     number: u16,
@@ -85,7 +85,7 @@ fn print_order(rt: &impl Print, order: &[Course]) -> io::Result<()> {
 }
 
 // Prints what the lock master asks: the clock and the foremost vessel.
-fn print_for_lock_master<Q: Queue<Key = Stamp> + Drop>(
+fn print_for_lock_master<Q: Queue<Key = Ticket> + Drop>(
     rt: &impl Print,
     board: &Board<SortedList, Q>,
 ) -> io::Result<()> {
@@ -100,7 +100,7 @@ fn print_for_lock_master<Q: Queue<Key = Stamp> + Drop>(
 
 // Prints what the tow planner asks: the order, each vessel's rank, position and neighbours, a vessel that is not
 // aboard and the number 0 among them, and the load.
-fn print_for_tow_planner<Q: Queue<Key = Stamp> + Drop>(
+fn print_for_tow_planner<Q: Queue<Key = Ticket> + Drop>(
     rt: &impl Print,
     board: &Board<SortedList, Q>,
 ) -> io::Result<()> {
@@ -114,7 +114,7 @@ fn print_for_tow_planner<Q: Queue<Key = Stamp> + Drop>(
 }
 
 // Prints what the board answers at the end of the watch.
-pub fn print_questions<Q: Queue<Key = Stamp> + Drop>(
+pub fn print_questions<Q: Queue<Key = Ticket> + Drop>(
     rt: &impl Print,
     board: &Board<SortedList, Q>,
 ) -> io::Result<()> {

@@ -2,7 +2,8 @@
 -- call's answer was right.
 use Rattle.std.proofs.Common.{◌≡◌, ℕ, Bool, true, false, eqb, ltb, List, ◌∷◌, is_some, Some, None, Ok, Err, Option, Result, sym, refl, ap, ◌∙◌, subst, inl, inr, ⊎_elim}
 use Rattle.std.proofs.lemmas.Bool.{eqb-false, ne_eqb, ltb-false, cases_eq}
-use Rattle.event_queue.specs.Queues.{Meaning, Only, HandedOut}
+use Rattle.event_queue.specs.Queues.{Meaning, Only, Unchanged, HandedOut}
+use Rattle.event_queue.proofs.Laws.{unchanged_is}
 use Rattle.call_sheet.specs.Sheets.{Does}
 use Rattle.call_sheet.specs.History.{concerns, RightlyHailed, Right, AllRight, LedTo}
 use Rattle.call_sheet.specs.declared.call.Event.{Event}
@@ -34,14 +35,14 @@ refused_idle : (line second : ℕ) (r : Refusal) → Idle (OnAwait line second (
 refused_idle line second r i s e = cc
 
 module _ {Q : Type 0} (m : Meaning Q ℕ) where
-  -- a call that leaves the sheet as it was, and concerns no line
-  led_same : {q q' : Q} {log : List Event} (e : Event) → LedTo m log q → q' ≡ q → Right (m.capacity q) log e → ((i : ℕ) → concerns i e ≡ false) → Idle e → LedTo m (e ∷ log) q'
-  led_same {q} {q'} {log} e l same right none idle =
-      subst (λ x. LedTo m (e ∷ log) x) (sym same) record {
-        sound = l.sound;
-        right = (right, l.right);
-        holds = λ i s. ⊎_elim (λ here. absurd (idle i s here)) (λ older. l.holds i s older.1);
-        only = λ i s h. inr (none i, l.only i s h);
+  -- a call that leaves what the sheet means as it was, and concerns no line
+  led_same : {q q' : Q} {log : List Event} (e : Event) → LedTo m log q → Unchanged m q q' → Right (m.capacity q) log e → ((i : ℕ) → concerns i e ≡ false) → Idle e → LedTo m (e ∷ log) q'
+  led_same {q} {q'} {log} e l u right none idle =
+      record {
+        sound = u.sound;
+        right = subst (λ c. AllRight c (e ∷ log)) (sym u.capacity) (right, l.right);
+        holds = λ i s. ⊎_elim (λ here. absurd (idle i s here)) (λ older. u.same i ∙ l.holds i s older.1);
+        only = λ i s h. inr (none i, l.only i s (sym (u.same i) ∙ h));
       }
 
   -- a call that changes what the sheet holds of one line, and concerns that line
@@ -78,26 +79,26 @@ module _ {Q : Type 0} (m : Meaning Q ℕ) where
   -- after a call that did what it should, the log leads on
   pub led : (q q' : Q) (e : Event) → Does m q q' e → (log : List Event) → LedTo m log q → LedTo m (e ∷ log) q'
   led q q' (OnAwait line second (Ok _)) d log l =
-      let done = d l.sound in
-      led_only _ l done.1 done.0 (λ i. refl)
+      led_only _ l (d.1 l.sound) d.0 (λ i. refl)
       (λ s h. let k : second ≡ s = cc in ap (λ t. OnAwait line t (Ok tt)) k)
       (λ i s new. let a : i ≡ line = cc in let b : second ≡ s = cc in (a, ap Some b))
   led q q' (OnAwait line second (Err r)) d log l =
-      led_same _ l d.0 (d.1 l.sound) (λ i. refl) (refused_idle line second r)
+      led_same _ l (unchanged_is m d.0 l.sound) d.1 (λ i. refl) (refused_idle line second r)
   led q q' (OnHeard line (Ok true)) d log l =
-      let done = d l.sound in
-      let old = some_of (m.held q line) done.1 in
-      led_gone _ l done.2 (done.0, (old.0, l.only line old.0 old.1)) (λ i. refl) (heard_idle line (Ok true))
+      let done = d.1 l.sound in
+      let old = some_of (m.held q line) done.0 in
+      led_gone _ l done.1 (d.0, (old.0, l.only line old.0 old.1)) (λ i. refl) (heard_idle line (Ok true))
   led q q' (OnHeard line (Ok false)) d log l =
-      let done = d l.sound in
-      let none = none_of (m.held q line) done.1 in
-      led_gone _ l done.2
-      (done.0, λ s w. let h : m.held q line ≡ Some s = l.holds line s w in cc)
+      let done = d.1 l.sound in
+      let none = none_of (m.held q line) done.0 in
+      led_gone _ l done.1
+      (d.0, λ s w. let h : m.held q line ≡ Some s = l.holds line s w in cc)
       (λ i. refl) (heard_idle line (Ok false))
   led q q' (OnHeard line (Err r)) d log l =
-      led_same _ l d.0 (d.1 l.sound) (λ i. refl) (heard_idle line (Err r))
+      led_same _ l (unchanged_is m d.0 l.sound) d.1 (λ i. refl) (heard_idle line (Err r))
   led q q' (OnOverdue given (Some hail)) d log l =
       let done = d l.sound in
       led_gone _ l done.after (rightly l done) (λ i. refl) (overdue_idle given (Some hail))
   led q q' (OnOverdue given None) d log l =
-      led_same _ l d.0 (λ i s w. d.1 l.sound i s (l.holds i s w)) (λ i. refl) (overdue_idle given None)
+      let done = d l.sound in
+      led_same _ l done.1 (λ i s w. done.0 i s (l.holds i s w)) (λ i. refl) (overdue_idle given None)

@@ -5,14 +5,14 @@ ghost use Rattle.call_sheet.specs.Texts.{refused_text, event_text};
 use crate::refusal::Refusal;
 use std::fmt;
 
-// A line that has to be hailed, and the second at which it was awaited.
+/// A line that has to be hailed, and the second at which it was awaited.
 #[derive(Clone, Copy, PartialEq, Eq, Debug)]
 pub struct Hail {
     pub line: usize,
     pub second: u32,
 }
 
-// A call on a sheet.
+/// A call on a sheet.
 #[derive(Clone, Copy, PartialEq, Eq, Debug)]
 pub enum Call {
     Await { line: usize, second: u32 },
@@ -20,7 +20,7 @@ pub enum Call {
     Overdue { second: u32 },
 }
 
-// A call that was made on a sheet, with what the sheet answered.
+/// A call that was made on a sheet, with what the sheet answered.
 #[derive(Clone, Copy, PartialEq, Eq, Debug)]
 pub enum Event {
     OnAwait {
@@ -52,7 +52,7 @@ fn write_refused<W: fmt::Write>(
     }
 }
 
-// What the sheet answered to the call, as a report has it.
+/// What the sheet answered to the call, as a report has it.
 impl fmt::Display for Event {
     ghost output = { λ e. Some (event_text e) };
 

@@ -1,17 +1,14 @@
 ghost use Rattle.std.specs.Prelude.{◌≡◌};
 ghost use Rattle.call_sheet.specs.Lines.{refusal_number};
-ghost use Rattle.call_sheet.specs.declared.refusal.Refusal.TheVariants.{NoSuchLine};
 
-use event_queue::refusal::Refusal as QueueRefusal;
-
-// Why a call sheet refused a call.
+/// Why a call sheet refused a call.
 #[derive(Clone, Copy, PartialEq, Eq, Debug)]
 pub enum Refusal {
-    // the line is not below the capacity
+    /// the line is not below the capacity
     NoSuchLine,
 }
 
-// The refusal's number in the table of refusals.
+/// The refusal's number in the table of refusals.
 impl From<Refusal> for u8 {
     ghost from_gives = { λ e r. r ≡ refusal_number e };
 
@@ -19,14 +16,5 @@ impl From<Refusal> for u8 {
         match refusal {
             Refusal::NoSuchLine => 11,
         }
-    }
-}
-
-// What the sheet's queue refuses, the sheet refuses: a ticket is a line.
-impl From<QueueRefusal> for Refusal {
-    ghost from_gives = { λ _ r. r ≡ NoSuchLine };
-
-    fn from(_refusal: QueueRefusal) -> Refusal {
-        Refusal::NoSuchLine
     }
 }

@@ -2,7 +2,7 @@
 use Rattle.std.proofs.Common.{◌≡◌, ℕ, ◌<◌, ◌≤◌, Bool, true, false, leb, List, [], ◌∷◌, is_some, Some, None, Ok, Err, Option, Result, sym, refl, ap, ◌∙◌, subst, arith}
 use Rattle.std.proofs.lemmas.Bool.{leb-true, leb-false, le-leb, lt-leb}
 use Rattle.event_queue.specs.Refusals.{Line, ◌when◌, topmost}
-use Rattle.event_queue.specs.Queues.{Meaning, Only, Put, Dropped, Rekeyed, put_refusal}
+use Rattle.event_queue.specs.Queues.{Meaning, Only, Unchanged, Put, Dropped, Rekeyed, put_refusal}
 use Rattle.event_queue.specs.declared.refusal.Refusal.{Refusal}
 use Rattle.event_queue.specs.declared.refusal.Refusal.TheVariants.{NoSuchTicket, TicketHeld}
 
@@ -46,6 +46,18 @@ module _ {E : Type 0} where
 -- what a queue's calls leave
 
 module _ {Q K : Type 0} (m : Meaning Q K) where
+  -- a sound queue means what it means
+  pub unchanged_itself : (q : Q) → m.sound q → Unchanged m q q
+  unchanged_itself q s = record { sound = s; capacity = refl; same = λ i. refl }
+
+  -- so does the queue that it is
+  pub unchanged_is : {q q' : Q} → q' ≡ q → m.sound q → Unchanged m q q'
+  unchanged_is {q} e s = subst (λ x. Unchanged m q x) (sym e) (unchanged_itself q s)
+
+  -- a queue that means what it did, at a ticket without a key
+  pub only_unchanged : (q q' : Q) (n : ℕ) → Unchanged m q q' → m.held q n ≡ None → Only m q q' n None
+  only_unchanged q q' n u h = record { sound = u.sound; capacity = u.capacity; there = u.same n ∙ h; others = λ i other. u.same i }
+
   -- where the ticket has none, nothing changes
   pub only_itself : (q : Q) (n : ℕ) → m.sound q → m.held q n ≡ None → Only m q q n None
   only_itself q n s h = record { sound = s; capacity = refl; there = h; others = λ i other. refl }
@@ -63,19 +75,19 @@ module _ {Q K : Type 0} (m : Meaning Q K) where
   -- a drop, whatever it answers, leaves the ticket without a key and the others as they were
   pub dropped_only : (q q' : Q) (n : ℕ) (r : Result (Option K) Refusal) → Dropped m q q' n r → m.sound q → Only m q q' n None
   dropped_only q q' n (Ok (Some key)) d s = (d s).2
-  dropped_only q q' n (Ok None) d s = subst (λ x. Only m q x n None) (sym d.0) (only_itself q n s (d.1 s).1)
+  dropped_only q q' n (Ok None) d s = only_unchanged q q' n (d s).2 (d s).1
   dropped_only q q' n (Err e) d s =
       subst (λ x. Only m q x n None) (sym d.0) (only_itself q n s (m.within q s n (past_refused NoSuchTicket e _ n (d.1 s))))
 
   -- an accepted drop is of a ticket number
   pub dropped_below : (q q' : Q) (n : ℕ) (old : Option K) → Dropped m q q' n (Ok old) → m.sound q → n < m.capacity q
   dropped_below q q' n (Some key) d s = below_accepted NoSuchTicket _ n [] (d s).0
-  dropped_below q q' n None d s = below_accepted NoSuchTicket _ n [] (d.1 s).0
+  dropped_below q q' n None d s = below_accepted NoSuchTicket _ n [] (d s).0
 
   -- and answers what the ticket held
   pub dropped_held : (q q' : Q) (n : ℕ) (old : Option K) → Dropped m q q' n (Ok old) → m.sound q → m.held q n ≡ old
   dropped_held q q' n (Some key) d s = (d s).1
-  dropped_held q q' n None d s = (d.1 s).1
+  dropped_held q q' n None d s = (d s).1
 
   -- a refused one is of no ticket number
   pub dropped_past : (q q' : Q) (n : ℕ) (e : Refusal) → Dropped m q q' n (Err e) → m.sound q → m.capacity q ≤ n

@@ -55,6 +55,12 @@ module _ {Q K : Type 0} (m : Meaning Q K) where
     pub there : m.held q' n ≡ holds
     pub others : (i : ℕ) → (i ≢ n) → m.held q' i ≡ m.held q i
 
+  -- q' means what q does: it is sound, as large, and each ticket holds what it held
+  pub record Unchanged (q q' : Q) : Type 0 where
+    pub sound : m.sound q'
+    pub capacity : m.capacity q' ≡ m.capacity q
+    pub same : (i : ℕ) → m.held q' i ≡ m.held q i
+
   -- held answers a sound queue's key
   abbrev pub Held : Q → ℕ → Result (Option K) Refusal → Type 0
   Held q n answer = HeldBelow (m.capacity q) (m.held q) n answer
@@ -64,10 +70,10 @@ module _ {Q K : Type 0} (m : Meaning Q K) where
   Put q q' n key (Ok _) = m.sound q → (put_refusal q n ≡ None) × Only q q' n (Some key)
   Put q q' n key (Err e) = (q' ≡ q) × (m.sound q → put_refusal q n ≡ Some e)
 
-  -- drop: refused, or where the ticket holds no key, it leaves any queue as it was
+  -- drop: refused, it leaves any queue as it was; where the ticket holds no key, a sound one means what it did
   abbrev pub Dropped : Q → Q → ℕ → Result (Option K) Refusal → Type 0
   Dropped q q' n (Ok (Some key)) = m.sound q → (ticket_refusal q n ≡ None) × (m.held q n ≡ Some key) × Only q q' n None
-  Dropped q q' n (Ok None) = (q' ≡ q) × (m.sound q → (ticket_refusal q n ≡ None) × (m.held q n ≡ None))
+  Dropped q q' n (Ok None) = m.sound q → (ticket_refusal q n ≡ None) × (m.held q n ≡ None) × Unchanged q q'
   Dropped q q' n (Err e) = (q' ≡ q) × (m.sound q → ticket_refusal q n ≡ Some e)
 
   -- rekey: refused, it leaves any queue as it was
@@ -83,7 +89,7 @@ module _ {Q K : Type 0} (m : Meaning Q K) where
       pub none_before : (i : ℕ) (k : K) → m.held q i ≡ Some k → before k key ≡ false
       pub after : Only q q' n None
 
-    -- take: where it answers none, it leaves any queue as it was
+    -- take: where it answers none, a sound queue means what it did
     abbrev pub Took : Q → Q → K → Option (ℕ × K) → Type 0
     Took q q' limit (Some ticket) = m.sound q → HandedOut q q' limit ticket.0 ticket.1
-    Took q q' limit None = (q' ≡ q) × (m.sound q → (i : ℕ) (k : K) → m.held q i ≡ Some k → before limit k ≡ true)
+    Took q q' limit None = m.sound q → ((i : ℕ) (k : K) → m.held q i ≡ Some k → before limit k ≡ true) × Unchanged q q'

@@ -3,11 +3,12 @@ ghost use Rattle.event_queue.specs.Queues.{Empty};
 
 use crate::queue::Queue;
 
-// Drops every ticket.
+/// Drops every ticket number below the capacity, so that a sound queue is empty. It never refuses.
 pub fn clear<Q: Queue>(queue: &mut Q)
-    ensures empty { Q.Queue.means.sound queue.old → Empty Q.Queue.means queue.new }
-    ensures capacity { Q.Queue.means.sound queue.old → Q.Queue.means.capacity queue.new ≡ Q.Queue.means.capacity queue.old }
-    ensures keeps { Q.Queue.means.keeps queue.old queue.new }
+    ensures empty { Q.means.sound queue.old → Empty Q.means queue.new }
+    ensures capacity { Q.means.sound queue.old
+        → Q.means.capacity queue.new ≡ Q.means.capacity queue.old }
+    ensures keeps { Q.means.keeps queue.old queue.new }
 {
     for ticket in 0..queue.capacity() {
         let _ = queue.drop(ticket);

@@ -2,12 +2,12 @@ ghost use Rattle.std.specs.Prelude.{◌≡◌, Bool, true, false, nat_lt};
 ghost use Rattle.event_queue.specs.Orders.{sooner};
 ghost use Rattle.std.proofs.Common.{rules};
 
-// A kind of keys: values with a total order. Two keys of which neither is before the other are equal
-// to a queue, whether or not they are the same value.
+/// A kind of keys: values with a total order. Two keys of which neither is before the other are equal
+/// to a queue, whether or not they are the same value.
 pub trait Key: Copy {
     ghost before: { Self → Self → Bool };
 
-    // Whether this key comes before the other.
+    /// Whether this key comes before the other.
     fn is_before(&self, other: &Self) -> bool
         ensures { result ≡ before self.now other.now };
 
@@ -15,10 +15,11 @@ pub trait Key: Copy {
     ghost asymmetric: { (a b : Self) → before a b ≡ true → before b a ≡ false };
 
     // 'not after' carries from first to second to third
-    ghost carries: { (a b c : Self) → before b a ≡ false → before c b ≡ false → before c a ≡ false };
+    ghost carries: { (a b c : Self)
+        → before b a ≡ false → before c b ≡ false → before c a ≡ false };
 }
 
-// Whole seconds: the earlier comes before the later.
+/// Whole seconds: the earlier comes before the later.
 impl Key for u32 {
     ghost before = { nat_lt };
 
@@ -31,9 +32,9 @@ impl Key for u32 {
     }
 }
 
-// Whether the first of two keys comes before the second, where no key at all comes last.
+/// Whether the first of two keys comes before the second, where no key at all comes last.
 pub fn is_sooner<K: Key>(a: Option<K>, b: Option<K>) -> bool
-    ensures { result ≡ sooner K.Key.before a b }
+    ensures { result ≡ sooner K.before a b }
 {
     match (a, b) {
         (Some(x), Some(y)) => x.is_before(&y),

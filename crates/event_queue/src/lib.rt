@@ -1,3 +1,4 @@
+//! Event queues: key kinds, the interface that every queue keeps, and what queues in lent cells share.
 #![tactic(auto)]
 
 pub mod cells;

@@ -15,7 +15,7 @@ lowest t = ratio (t.num / gcd t.num t.den) (t.den / gcd t.num t.den)
 abbrev pub Lowers : Type 0
 Lowers = (t : Time) → Proper t → Proper (lowest t) × Reduced (lowest t) × (t =ᵗ lowest t)
 
--- and there are no others
+-- two times in lowest terms with equal values are one
 abbrev pub OneForm : Type 0
 OneForm = (t u : Time) → Proper t → Proper u → Reduced t → Reduced u → t =ᵗ u → t ≡ u
 

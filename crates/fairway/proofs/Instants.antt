@@ -2,14 +2,14 @@
 use Rattle.std.proofs.Common.{◌≡◌, ℕ, ◌+◌, ◌-◌, ◌*◌, ◌/◌, ◌%◌, ◌<◌, ◌≤◌, Bool, true, false, ◌⊎◌, inl, inr, ◌&&◌, ◌==◌, None, sym, refl, ap, ◌∙◌, subst, ⊎_elim, mul-le-mul_right, mod-eq_of_lt, div-le_self, add-mul, arith}
 use Prim.Native.Nat.{◌∣◌}
 use native.Mathlib.Nat.{pos_of_dvd_of_pos, div-mul_cancel, dvd-mod_iff, mul-add-mod_self_right}
-use Rattle.std.proofs.lemmas.Bool.Decides.{nat_tests}
-use Rattle.std.proofs.lemmas.Bool.{cases_order, cases_lt}
+use Rattle.std.proofs.lemmas.Bool.Decides.{nat_tests, Decides-at, Decides-like}
+use Rattle.std.proofs.lemmas.Bool.{cases_order, cases_lt, cases_Bool}
 use Rattle.std.specs.Ordering.{is_lt, is_gt, ordering_then, ordering_reverse, nat_cmp}
 use Rattle.std.specs.declared.cmp.Ordering.{Ordering}
 use Rattle.std.specs.declared.cmp.Ordering.TheVariants.{Less, Equal, Greater}
 use Rattle.fairway.specs.Times.{ratio, whole_and, ◌=ᵗ◌, ◌<ᵗ◌}
 use Rattle.fairway.specs.Fractions.{CommonDivisor, Coprime, Reduced}
-use Rattle.fairway.specs.Courses.{Decides}
+use Rattle.std.specs.Bool.{Decides}
 use Rattle.fairway.specs.Stamps.{time_of, den, BelowOne}
 use Rattle.fairway.specs.StampsLemmas.{crossed, crossed_lt}
 use Rattle.fairway.specs.InstantsLemmas.{total}
@@ -85,7 +85,7 @@ one_whole s n d t m e p q cn cm eq =
 pub one_instant : (a b : Instant) → value a =ᵗ value b → SameNumbers a b
 one_instant a b e = one_whole a.seconds a.numerator a.denominator b.seconds b.numerator b.denominator a.below b.below a.lowest b.lowest e
 
--- the same of stamps
+-- two stamps below one in lowest terms with equal values are one
 pub one_stamp : (a b : Stamp) → BelowOne a → BelowOne b → Coprime a.numerator (den a) → Coprime b.numerator (den b) → time_of a =ᵗ time_of b → a ≡ b
 one_stamp a b p q ca cb e =
     let r = one_whole a.seconds a.numerator (den a) b.seconds b.numerator (den b) p q ca cb e in
@@ -101,17 +101,17 @@ same_times a b s =
     ap (λ x. x.num * (value b).den) t ∙ ap (λ x. (value b).num * x.den) (sym t)
 
 -- the three numbers compared, as the derived equality does
-same_tests : (s n d t m e : ℕ) (r : Bool) → r ≡ (s == t && (n == m && d == e)) → Decides ((s ≡ t) × (n ≡ m) × (d ≡ e)) r
+same_tests : (s n d t m e : ℕ) (r : Bool) → r ≡ (s == t && (n == m && d == e)) → Decides r ((s ≡ t) × (n ≡ m) × (d ≡ e))
 same_tests s n d t m e r h = (
   (λ y. (grind (arith, nat_tests), grind (arith, nat_tests), grind (arith, nat_tests))),
-  (λ y p. let a = p.0 in let b = p.1 in let c = p.2 in grind (arith, nat_tests)),
+  (λ p. let a = p.0 in let b = p.1 in let c = p.2 in grind (arith, nat_tests)),
 )
 
 pub told_same : (a b : Instant) (r : Bool) → r ≡ (a.seconds == b.seconds && (a.numerator == b.numerator && a.denominator == b.denominator)) → SameInstant a b r
 told_same a b r h =
-    let d : Decides (SameNumbers a b) r = same_tests a.seconds a.numerator a.denominator b.seconds b.numerator b.denominator r h in
+    let d : Decides r (SameNumbers a b) = same_tests a.seconds a.numerator a.denominator b.seconds b.numerator b.denominator r h in
     record {
-      by_value = ((λ e. same_times a b (d.0 e)), (λ e v. d.1 e (one_instant a b v)));
+      by_value = Decides-like r (same_times a b) (one_instant a b) d;
       by_numbers = d;
       one_form = one_instant a b;
     }
@@ -124,28 +124,30 @@ less_yes s t x y e =
 less_no : (s t x y : ℕ) → is_lt (ordering_then (nat_cmp s t) (nat_cmp x y)) ≡ false → (t ≤ s) × (s ≡ t → y ≤ x)
 less_no s t x y e = (grind (arith, nat_tests), λ h. grind (arith, nat_tests))
 
-earlier_by : (a b : Instant) → Decides (value a <ᵗ value b) (is_lt (time_order a b))
+earlier_by : (a b : Instant) → Decides (is_lt (time_order a b)) (value a <ᵗ value b)
 earlier_by a b =
     let p : a.numerator < a.denominator = a.below in
     let q : b.numerator < b.denominator = b.below in (
       (λ e.
           crossed_lt a.seconds a.numerator a.denominator b.seconds b.numerator b.denominator p (omega arith)
           (less_yes a.seconds b.seconds (a.numerator * b.denominator) (b.numerator * a.denominator) e)),
-      (λ e h.
+      (λ h. ⊎_elim (λ e. e)
+          (λ e.
           let n = less_no a.seconds b.seconds (a.numerator * b.denominator) (b.numerator * a.denominator) e in
           let k = crossed b.seconds b.numerator b.denominator a.seconds a.numerator a.denominator q n.0 n.1 in
-          omega arith),
+          absurd (omega arith))
+          (cases_Bool (is_lt (time_order a b)))),
     )
 
-pub told_before : (a b : Instant) (r : Bool) → r ≡ is_lt (time_order a b) → Decides (value a <ᵗ value b) r
-told_before a b r e = subst (Decides (value a <ᵗ value b)) (sym e) (earlier_by a b)
+pub told_before : (a b : Instant) (r : Bool) → r ≡ is_lt (time_order a b) → Decides r (value a <ᵗ value b)
+told_before a b r e = Decides-at r (is_lt (time_order a b)) e (earlier_by a b)
 
 turned_test : (o : Ordering) → is_lt (ordering_reverse o) ≡ is_gt o
 turned_test Less = refl
 turned_test Equal = refl
 turned_test Greater = refl
 
-pub told_after : (a b : Instant) (r : Bool) → r ≡ is_gt (time_order a b) → Decides (value b <ᵗ value a) r
+pub told_after : (a b : Instant) (r : Bool) → r ≡ is_gt (time_order a b) → Decides r (value b <ᵗ value a)
 told_after a b r e = told_before b a r (e ∙ sym (ap is_lt (total.antisymm b a) ∙ turned_test (time_order a b)))
 
 -- ---- an instant as a stamp

@@ -5,7 +5,7 @@ use Rattle.std.proofs.lemmas.Int.{ints, by_lt_z}
 use Rattle.std.proofs.lemmas.Bool.{cases_lt}
 use Rattle.fairway.specs.Courses.{place}
 use Rattle.fairway.specs.Behind.{Behind, Passes, Stays, Laws}
-use Rattle.fairway.proofs.Laws.{is_test, mul_cancel, strict_order, differ, lesser_behind}
+use Rattle.fairway.proofs.Laws.{is_test, mul_cancel, strict_order, differ, lesser_behind, level_slower}
 
 -- (a - b) n = a n - b n
 pub sub_mul : (a b : ℤ) (n : ℕ) → (a -ℤ b) *ℤ pos n ≡ a *ℤ pos n -ℤ b *ℤ pos n
@@ -81,4 +81,4 @@ stays r f slow t u pt pu later b =
         inr (omega (arith, ints), inr (v, h))
 
 pub laws : Laws
-laws = record { ordered = strict_order; differ = differ; lesser = lesser_behind; passes = passes; stays = stays }
+laws = record { ordered = strict_order; differ = differ; lesser = lesser_behind; level_slower = level_slower; passes = passes; stays = stays }

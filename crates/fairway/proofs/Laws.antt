@@ -1,14 +1,16 @@
 -- `behind` is a strict total order at each time, and courses can be told apart.
-use Rattle.std.proofs.Common.{◌≡◌, ℕ, ◌+◌, ◌*◌, ◌<◌, ◌≤◌, Bool, true, false, cond, ltb, ◌⊎◌, ℤ, pos, ◌+ℤ◌, ◌*ℤ◌, ◌<ℤ◌, sym, refl, ap, ◌∙◌, inl, inr, ⊎_elim, add-mul, le_of_mul-le-mul_right, arith}
+use Rattle.std.proofs.Common.{◌≡◌, ℕ, ◌+◌, ◌*◌, ◌<◌, ◌≤◌, Bool, true, false, cond, ltb, ◌⊎◌, ℤ, pos, ◌+ℤ◌, ◌*ℤ◌, ◌<ℤ◌, refl, ap, ◌∙◌, inl, inr, ⊎_elim, add-mul, le_of_mul-le-mul_right, arith}
 use native.Mathlib.Decide.{ℕ_discrete}
 use lib.IntN.{ℤ_discrete}
 use lib.Signed.{lt_z}
 use borrow.Author.Differences.{up, down}
 use Rattle.std.proofs.lemmas.Int.{ints, by_lt_z}
-use Rattle.std.proofs.lemmas.Bool.{ltb-true, ltb-false, cases_order, false≢true, both_ways}
+use Rattle.std.proofs.lemmas.Bool.Decides.{Decides-at}
+use Rattle.std.proofs.lemmas.Bool.{ltb-true, ltb-false, cases_order, false≢true}
+use Rattle.std.specs.Bool.{Decides}
 use Rattle.fairway.specs.Times.{Time, Proper}
-use Rattle.fairway.specs.Courses.{place, Decides}
-use Rattle.fairway.specs.Behind.{behind, Behind, IsTest, Irreflexive, Transitive, Total, StrictOrder, VesselsDiffer, LesserBehind}
+use Rattle.fairway.specs.Courses.{place, Level, faster}
+use Rattle.fairway.specs.Behind.{behind, Behind, IsTest, Irreflexive, Transitive, Total, StrictOrder, VesselsDiffer, LesserBehind, LevelSlower}
 use Rattle.fairway.specs.declared.course.Course.{Course}
 
 -- the lexicographic order of three numbers, as a statement and as a test
@@ -49,9 +51,8 @@ is_test t u w =
     let s = said (place t u) u.speed u.number (place t w) w.speed w.number in
     (yes_of (behind t u w) s, of_yes (behind t u w) s)
 
-pub told_behind : (t : Time) (u w : Course) (r : Bool) → r ≡ behind t u w → Decides (Behind t u w) r
-told_behind t u w r e =
-    ((λ h. (is_test t u w).0 (sym e ∙ h)), (λ h b. both_ways (behind t u w) (sym e ∙ h) ((is_test t u w).1 b)))
+pub told_behind : (t : Time) (u w : Course) (r : Bool) → r ≡ behind t u w → Decides r (Behind t u w)
+told_behind t u w r e = Decides-at r (behind t u w) e (is_test t u w)
 
 pub irreflexive : (t : Time) → Irreflexive t
 irreflexive t u h = omega (arith, ints, (is_test t u u).0 h)
@@ -114,6 +115,15 @@ differ t pr u w n = ⊎_elim (λ e. absurd (n (ap (λ c. c.number) e))) (λ h. h
 
 pub lesser_behind : LesserBehind
 lesser_behind t u w h = (is_test t u w).1 (inl h)
+
+-- one that is behind at the same place is slower or as fast
+level_cases : (t : Time) (r f : Course) → Behind t r f → Level t r f → faster r f ≡ false
+level_cases t r f (inl h) l = absurd (omega (arith, ints))
+level_cases t r f (inr (e, inl h)) l = grind (arith, ints)
+level_cases t r f (inr (e, inr (v, h))) l = grind (arith, ints)
+
+pub level_slower : LevelSlower
+level_slower t r f b l = level_cases t r f ((is_test t r f).0 b) l
 
 -- ---- courses can be told apart
 course_by : (u w : Course) → Dec (u.number ≡ w.number) → Dec (u.speed ≡ w.speed) → Dec (u.base ≡ w.base) → Dec (u ≡ w)

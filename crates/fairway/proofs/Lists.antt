@@ -1,18 +1,20 @@
 -- Lists of courses, place by place: neighbours, counts of pairs, an exchange.
 use Rattle.std.proofs.Common.{◌≡◌, ℕ, zero, suc, ◌+◌, ◌<◌, ◌≤◌, Bool, true, false, not, cond, List, [], ◌∷◌, length, get_or, set, pos, Some, None, sum_by, Option, sym, refl, ap, ◌∙◌, subst, add-zero, add-one, arith}
+use Rattle.std.specs.Bool.{Decides}
 use Rattle.std.specs.Borrow.{Bor}
 use Rattle.std.specs.Option.{IfSome, IsSomeAnd}
 use Rattle.std.specs.List.{AllAdjacentBelow, IsAllAdjacentAnswer, IsSubsliceAt, swap}
-use Rattle.std.proofs.lemmas.Bool.{both_ways, true≢false, false≢true}
+use Rattle.std.proofs.lemmas.Bool.{both_ways, false≢true}
+use Rattle.std.proofs.lemmas.Bool.Decides.{not_from_Decides}
 use Rattle.std.proofs.lemmas.List.Edits.{swap_is}
 use Rattle.event_queue.proofs.Options.{none_some, some_same}
 use Rattle.fairway.specs.Times.{Time, Proper}
-use Rattle.fairway.specs.Courses.{Decides, Due}
+use Rattle.fairway.specs.Courses.{Due}
 use Rattle.fairway.specs.Behind.{behind}
-use Rattle.fairway.specs.Pairs.{Past}
+use Rattle.fairway.specs.Pairs.{PastLevelAnswer}
 use Rattle.fairway.specs.Orders.{pair, turns, turned, turned_by, Exchange, here, there}
 use Rattle.fairway.specs.Standing.{Neighbours, NotLevelBefore}
-use Rattle.fairway.specs.Lists.{pair_at, SortedAnswer, TurnedCount, FirstDue, StandsUntil, Exchanged}
+use Rattle.fairway.specs.Lists.{pair_at, SortedAnswer, TurnedCount, FirstDuePlace, StandsUntil, Exchanged}
 use Rattle.fairway.specs.declared.course.Course.{Course}
 use Rattle.fairway.proofs.Totals.{over, over_is, over_all, length_over}
 use Rattle.fairway.proofs.Sorting.{order_is}
@@ -84,38 +86,38 @@ pub sorted_told : (t : Time) → Proper t → (xs : List Course) (answer : Bool)
 sorted_told t pr xs true h =
     let s = chain t xs (neighbours (InOrderAt t) xs nobody (λ k l. sym (h k nobody l))) in
     record {
-      value = ((λ e. s), (λ e h. true≢false e));
+      value = ((λ e. s), (λ h. refl));
       is_order = λ e roster a m. (order_is t pr roster a).only xs s m;
       one_order = order_is t pr xs;
     }
 sorted_told t pr xs false h =
     record {
       value =
-          ((λ e. absurd (false≢true e)), (λ e s. both_ways _ (sym (h.2 nobody)) (all_adjacent (InOrderAt t) xs (sorted_near t xs s) h.0 nobody h.1)));
+          ((λ e. absurd (false≢true e)), (λ s. absurd (both_ways _ (sym (h.2 nobody)) (all_adjacent (InOrderAt t) xs (sorted_near t xs s) h.0 nobody h.1))));
       is_order = λ e. absurd (false≢true e);
       one_order = order_is t pr xs;
     }
 
 pub until_told : (u : Time) → Proper u → (xs : List Course) (past : Bool) →
-    (past ≡ false → (k : ℕ) → k + 1 < length xs → Past u (get_or xs k nobody) (get_or xs (k + 1) nobody) false) →
-    (past ≡ true → (k : ℕ) × (k + 1 < length xs) × Past u (get_or xs k nobody) (get_or xs (k + 1) nobody) true) → StandsUntil u xs (not past)
+    (past ≡ false → (k : ℕ) → k + 1 < length xs → PastLevelAnswer u (get_or xs k nobody) (get_or xs (k + 1) nobody) false) →
+    (past ≡ true → (k : ℕ) × (k + 1 < length xs) × PastLevelAnswer u (get_or xs k nobody) (get_or xs (k + 1) nobody) true) → StandsUntil u xs (not past)
 until_told u pu xs false n y =
     let h = neighbours (NotLevelBefore u) xs nobody (λ k l. (n refl k l).0 refl) in
-    record { value = ((λ e. h), (λ e g. true≢false e)); stands_on = λ e t pt l s. stands_later t u pt pu l xs s h }
+    record { value = ((λ e. h), (λ g. refl)); stands_on = λ e t pt l s. stands_later t u pt pu l xs s h }
 until_told u pu xs true n y =
     let k = (y refl).0 in
     let l : k + 1 < length xs = (y refl).1 in
-    let p : Past u (get_or xs k nobody) (get_or xs (k + 1) nobody) true = (y refl).2 in
+    let p : PastLevelAnswer u (get_or xs k nobody) (get_or xs (k + 1) nobody) true = (y refl).2 in
     record {
-      value = ((λ e. absurd (false≢true e)), (λ e g. p.1 refl (all_adjacent (NotLevelBefore u) xs g k nobody l)));
+      value = ((λ e. absurd (false≢true e)), (λ g. absurd (p.1 refl (all_adjacent (NotLevelBefore u) xs g k nobody l))));
       stands_on = λ e. absurd (false≢true e);
     }
 
 pub due_told : (t : Time) (xs : List Course) (r : Option ℕ) →
-    (r ≡ None → (k : ℕ) → k + 1 < length xs → Decides (Due t (get_or xs k nobody) (get_or xs (k + 1) nobody)) false) →
-    ((i : ℕ) → r ≡ Some i → (i + 1 < length xs) × Decides (Due t (get_or xs i nobody) (get_or xs (i + 1) nobody)) true) →
-    ((i : ℕ) → r ≡ Some i → (k : ℕ) → k < i → Decides (Due t (get_or xs k nobody) (get_or xs (k + 1) nobody)) false) → FirstDue t xs r
-due_told t xs None n y b = let h = neighbours (NotDue t) xs nobody (λ k l. (n refl k l).1 refl) in (h, λ s. stands_sorted t xs s h)
+    (r ≡ None → (k : ℕ) → k + 1 < length xs → Decides false (Due t (get_or xs k nobody) (get_or xs (k + 1) nobody))) →
+    ((i : ℕ) → r ≡ Some i → (i + 1 < length xs) × Decides true (Due t (get_or xs i nobody) (get_or xs (i + 1) nobody))) →
+    ((i : ℕ) → r ≡ Some i → (k : ℕ) → k < i → Decides false (Due t (get_or xs k nobody) (get_or xs (k + 1) nobody))) → FirstDuePlace t xs r
+due_told t xs None n y b = let h = neighbours (NotDue t) xs nobody (λ k l. not_from_Decides false (n refl k l) refl) in (h, λ s. stands_sorted t xs s h)
 due_told t xs (Some i) n y b =
     let q = y i refl in
     record {
@@ -123,7 +125,7 @@ due_told t xs (Some i) n y b =
       front = get_or xs (i + 1) nobody;
       there = rw add-one (pair_get xs i nobody (omega arith));
       due = q.1.0 refl;
-      first = λ k r f l e. at_pair (NotDue t) xs k nobody r f (λ m. (b i refl k l).1 refl) e;
+      first = λ k r f l e. at_pair (NotDue t) xs k nobody r f (λ m. not_from_Decides false (b i refl k l) refl) e;
     }
 
 -- ---- an exchange
@@ -141,6 +143,7 @@ exchanged t xs ys i d h w due =
     record {
       were = rw add-one (pair_get xs i d (omega arith));
       due = due;
+      value = w;
       exchange = e;
       loses = loses_one r f xs ys (due_faster t r f due) e;
       stands = λ s. stands_mended t r f xs ys s due e;

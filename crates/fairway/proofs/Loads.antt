@@ -9,7 +9,7 @@ use Rattle.fairway.proofs.Totals.{over_is}
 use Rattle.fairway.proofs.Advance.{load_is}
 
 -- the first course as rear, and the load of the rest
-load_cons : (x : Course) (xs : List Course) → load (x ∷ xs) ≡ slower_than x xs + load xs
+pub load_cons : (x : Course) (xs : List Course) → load (x ∷ xs) ≡ slower_than x xs + load xs
 load_cons x xs = omega (arith, load_is (x ∷ xs), load_is xs, over_is (λ y. cond (faster x y) 1 0) xs)
 
 pub load_rest : (xs : List Course) (d : Course) → 0 < length xs → load xs ≡ slower_than (get_or xs 0 d) (take (length xs - 1) (drop 1 xs)) + load (drop 1 xs)

@@ -1,5 +1,6 @@
 -- Level instants: lowest terms, the pair before and after, and the bounds.
 use Rattle.std.proofs.Common.{◌≡◌, ℕ, ◌+◌, ◌-◌, ◌*◌, ◌/◌, ◌%◌, ◌<◌, ◌≤◌, Bool, true, false, ◌&&◌, ℤ, pos, negsuc, ◌+ℤ◌, ◌-ℤ◌, ◌*ℤ◌, nat_abs, ◌≤ℤ◌, ◌<ℤ◌, Some, None, Ok, sym, refl, ap, ◌∙◌, subst, inl, inr, ⊎_elim, mul-le-mul_right, mod-lt, mul_comm, mul-lt-mul_of_pos_right, div-le_self, le_of_mul-le-mul_right, arith}
+use Rattle.std.specs.Bool.{Decides}
 use native.Mathlib.Nat.{div-add-mod}
 use lib.Signed.{le_z}
 use Rattle.std.proofs.lemmas.Int.{ints, by_lt_z}
@@ -8,7 +9,7 @@ use Rattle.event_queue.proofs.Options.{none_some, some_same}
 use Rattle.fairway.specs.Times.{Time, ratio, whole_and, ◌≤ᵗ◌, ◌=ᵗ◌}
 use Rattle.fairway.specs.Fractions.{gcd, Coprime}
 use Rattle.fairway.specs.Stamps.{den, time_of, BelowOne}
-use Rattle.fairway.specs.Courses.{Decides, InRange, faster, Due}
+use Rattle.fairway.specs.Courses.{InRange, faster, Due}
 use Rattle.fairway.specs.Behind.{FromLevel}
 use Rattle.fairway.specs.Meetings.{lowest_stamp, gap, gain, level, TurnsAt, LevelInstant, Meets, LevelAnswer}
 use Rattle.fairway.specs.Standing.{NotLevelBefore}
@@ -18,7 +19,7 @@ use Rattle.fairway.proofs.Fractions.{gcd_is, common_divisor}
 use Rattle.fairway.proofs.Instants.{lowered, one_stamp, stamp_below, stamp_lowest, stamp_time}
 use Rattle.fairway.specs.Instants.{Made, stamp_of, instant_refusal}
 use Rattle.fairway.specs.declared.instant.Instant.{Instant}
-use Rattle.std.proofs.lemmas.Bool.Decides.{nat_tests}
+use Rattle.std.proofs.lemmas.Bool.Decides.{nat_tests, Decides-like}
 use Rattle.fairway.proofs.Kinetic.{sub_mul, passes, stays}
 
 -- ---- a quotient as a stamp
@@ -192,11 +193,12 @@ gone_before r f F B =
     }
 
 -- a faster rear is level where its gain makes up the gap
-pub due_where : (t : Time) (r f : Course) → faster r f ≡ true → r.base ≤ℤ f.base → (b : Bool) → Decides (t.num * gain r f ≡ gap r f * t.den) b → Decides (Due t r f) b
-due_where t r f F B b h = (
-  λ e. (even_places r.base f.base r.speed f.speed t.num t.den (eq_to (r.speed -ℤ f.speed) (f.base -ℤ r.base) (gap r f) (gain r f) t.num t.den (gained r f F B) (apart r f F B) (h.0 e)), slow r f F B),
-  λ e d. h.1 e (eq_from (r.speed -ℤ f.speed) (f.base -ℤ r.base) (gap r f) (gain r f) t.num t.den (gained r f F B) (apart r f F B) (even_ways r.base f.base r.speed f.speed t.num t.den d.0)),
-)
+pub due_where : (t : Time) (r f : Course) → faster r f ≡ true → r.base ≤ℤ f.base → (b : Bool) → Decides b (t.num * gain r f ≡ gap r f * t.den) → Decides b (Due t r f)
+due_where t r f F B b h =
+    Decides-like b
+    (λ e. (even_places r.base f.base r.speed f.speed t.num t.den (eq_to (r.speed -ℤ f.speed) (f.base -ℤ r.base) (gap r f) (gain r f) t.num t.den (gained r f F B) (apart r f F B) e), slow r f F B))
+    (λ d. eq_from (r.speed -ℤ f.speed) (f.base -ℤ r.base) (gap r f) (gain r f) t.num t.den (gained r f F B) (apart r f F B) (even_ways r.base f.base r.speed f.speed t.num t.den d.0))
+    h
 
 below_nothing : (z : ℤ) (n : ℕ) → 0 < n → z <ℤ pos 0 → (z *ℤ pos n) <ℤ pos 0
 below_nothing z n p h =
@@ -204,7 +206,7 @@ below_nothing z n p h =
     let b = not_above (z -ℤ negsuc 0) n (omega (arith, ints)) in
     omega (arith, ints)
 
--- and never where it was ahead at second 0
+-- a faster rear that was ahead at second 0 is never due
 never_due : (t : Time) (r f : Course) → 0 < t.den → faster r f ≡ true → f.base <ℤ r.base → Due t r f → ⊥
 never_due t r f p F B d =
     let s : f.speed <ℤ r.speed = grind (arith, ints) in
@@ -213,8 +215,8 @@ never_due t r f p F B d =
     let y = not_below (r.speed -ℤ f.speed) t.num (omega (arith, ints)) in
     omega (arith, ints)
 
-pub not_due_ahead : (t : Time) (r f : Course) → 0 < t.den → faster r f ≡ true → f.base <ℤ r.base → Decides (Due t r f) false
-not_due_ahead t r f p F B = ((λ e. cc), (λ e. never_due t r f p F B))
+pub not_due_ahead : (t : Time) (r f : Course) → 0 < t.den → faster r f ≡ true → f.base <ℤ r.base → Decides false (Due t r f)
+not_due_ahead t r f p F B = ((λ e. cc), (λ d. absurd (never_due t r f p F B d)))
 
 -- ---- for crates above
 

@@ -4,7 +4,7 @@ use lib.Signed.{lt_z}
 use Rattle.std.proofs.lemmas.Int.{ints}
 use Rattle.fairway.specs.Times.{Time}
 use Rattle.fairway.specs.Courses.{place, faster}
-use Rattle.fairway.specs.Pairs.{Past}
+use Rattle.fairway.specs.Pairs.{PastLevelAnswer}
 use Rattle.fairway.specs.declared.course.Course.{Course}
 use Rattle.fairway.proofs.Kinetic.{sub_mul}
 
@@ -26,7 +26,7 @@ test_no x y h = grind (arith, ints)
 test_yes : (x y : ℤ) → lt_z x y ≡ true → x <ℤ y
 test_yes x y h = grind (arith, ints)
 
-pub past_told : (t : Time) (r f : Course) → faster r f ≡ true → Past t r f (lt_z (place t f) (place t r))
+pub past_told : (t : Time) (r f : Course) → faster r f ≡ true → PastLevelAnswer t r f (lt_z (place t f) (place t r))
 past_told t r f F = (
   (λ e g. not_past r.base f.base r.speed f.speed t.num t.den (test_no (place t f) (place t r) e)),
   (λ e n. past r.base f.base r.speed f.speed t.num t.den (test_yes (place t f) (place t r) e) (n F)),

@@ -1,11 +1,15 @@
 -- Rosters as lists of courses.
 use Rattle.std.proofs.Common.{◌≡◌, ℕ, cond, eqb, ◌≢◌, List, [], ◌∷◌, Some, None, sym, refl, ap, ◌∙◌, subst, inl, inr, ⊎_elim}
-use Rattle.std.specs.List.{AllByRecursion}
+use Rattle.std.specs.List.{AllByRecursion, insert, remove}
+use Rattle.std.proofs.ByRecursion.{All-weaker}
 use Rattle.std.proofs.lemmas.Bool.{eqb-true, eqb-false, eq-eqb, ne_eqb, cond-true, cond-false, cond_both, cases_Bool}
 use Rattle.fairway.specs.declared.course.Course.{Course}
-use Rattle.fairway.specs.Orders.{Holds, Same, Apart}
+use Rattle.fairway.specs.Times.{Time}
+use Rattle.fairway.specs.Orders.{Holds, Same, Apart, put, Exchange}
 use Rattle.fairway.specs.Rosters.{course_of, without, altered, changed_by}
 use Rattle.event_queue.proofs.Options.{none_some, some_same}
+pub use Rattle.fairway.proofs.Pairwise.{all_without}
+use Rattle.fairway.proofs.Pairwise.{pairwise_exchange, pairwise_put, pairwise_inserted, pairwise_removed, pairwise_without}
 use Rattle.fairway.proofs.Sorting.{held}
 
 pub found : (xs : List Course) (c : Course) → Apart xs → Holds xs c → course_of xs c.number ≡ Some c
@@ -41,14 +45,29 @@ same_half xs ys a h c k = (of_found ys c.number c (sym (h c.number) ∙ found xs
 pub same_from : (xs ys : List Course) → Apart xs → Apart ys → ((n : ℕ) → course_of xs n ≡ course_of ys n) → Same xs ys
 same_from xs ys a b h c = (same_half xs ys a h c, same_half ys xs b (λ n. sym (h n)) c)
 
--- ---- one vessel less
-pub all_without : (P : Course → Type 0) (n : ℕ) (xs : List Course) → AllByRecursion P xs → AllByRecursion P (without n xs)
-all_without P n [] h = tt
-all_without P n (x ∷ xs) h = cond_both (eqb x.number n) xs (x ∷ without n xs) (AllByRecursion P) (λ t. h.1) (λ t. (h.0, all_without P n xs h.1))
+-- ---- no number comes twice after a change either
+abbrev NumbersDiffer : Course → Course → Type 0
+NumbersDiffer x y = x.number ≢ y.number
+
+turned_numbers : (x : Course) (xs : List Course) → AllByRecursion (NumbersDiffer x) xs → AllByRecursion (λ y. NumbersDiffer y x) xs
+turned_numbers x = All-weaker (NumbersDiffer x) (λ y. NumbersDiffer y x) (λ y n e. n (sym e))
+
+pub apart_exchange : {r f : Course} {xs ys : List Course} → Exchange r f xs ys → Apart xs → Apart ys
+apart_exchange e a = pairwise_exchange NumbersDiffer (λ n q. n (sym q)) e a
+
+pub apart_put : (t : Time) (x : Course) (xs : List Course) → AllByRecursion (λ y. x.number ≢ y.number) xs → Apart xs → Apart (put t x xs)
+apart_put t x xs n a = pairwise_put NumbersDiffer t x xs n (turned_numbers x xs n) a
+
+pub apart_inserted : (xs : List Course) (i : ℕ) (x : Course) → AllByRecursion (λ y. x.number ≢ y.number) xs → Apart xs → Apart (insert xs i x)
+apart_inserted xs i x n a = pairwise_inserted NumbersDiffer xs i x n (turned_numbers x xs n) a
+
+pub apart_removed : (xs : List Course) (i : ℕ) → Apart xs → Apart (remove xs i)
+apart_removed = pairwise_removed NumbersDiffer
 
 pub apart_without : (n : ℕ) (xs : List Course) → Apart xs → Apart (without n xs)
-apart_without n [] a = tt
-apart_without n (x ∷ xs) a = cond_both (eqb x.number n) xs (x ∷ without n xs) Apart (λ t. a.1) (λ t. (all_without (λ y. x.number ≢ y.number) n xs a.0, apart_without n xs a.1))
+apart_without = pairwise_without NumbersDiffer
+
+-- ---- one vessel less
 
 pub absent_without : (n : ℕ) (xs : List Course) → Apart xs → course_of (without n xs) n ≡ None
 absent_without n [] a = refl

@@ -9,6 +9,7 @@ use Rattle.fairway.specs.declared.course.Course.{Course}
 use Rattle.fairway.specs.Orders.{Holds, Same, Apart, Sorted, put, order}
 use Rattle.fairway.proofs.Laws.{irreflexive, transitive, differ}
 use Rattle.fairway.specs.Runs.{OrderIs}
+pub use Rattle.fairway.proofs.Pairwise.{all_put}
 use Rattle.fairway.proofs.Totals.{over, tri, full, over_same, over_none, over_add, over_all}
 
 pub self : (t : Time) (u : Course) → behind t u u ≡ false
@@ -23,11 +24,6 @@ other t pr u w n h =
     ⊎_elim (λ i. absurd (both_ways (behind t u w) h i)) (λ i. i) (differ t pr u w n)
 
 -- ---- put and order keep what holds of each, the sum over all, and who is there
-pub all_put : (P : Course → Type 0) (t : Time) (x : Course) (xs : List Course) → P x → AllByRecursion P xs → AllByRecursion P (put t x xs)
-all_put P t x [] p h = (p, tt)
-all_put P t x (y ∷ ys) p h =
-    cond_both (behind t x y) (x ∷ y ∷ ys) (y ∷ put t x ys) (AllByRecursion P) (λ _. (p, h)) (λ _. (h.0, all_put P t x ys p h.1))
-
 pub all_order : (P : Course → Type 0) (t : Time) (xs : List Course) → AllByRecursion P xs → AllByRecursion P (order t xs)
 all_order P t [] h = tt
 all_order P t (x ∷ xs) h = all_put P t x (order t xs) h.0 (all_order P t xs h.1)
@@ -79,7 +75,7 @@ sorted_order t pr [] a = tt
 sorted_order t pr (x ∷ xs) a =
     sorted_put t pr x (order t xs) (all_order (λ y. x.number ≢ y.number) t xs a.0) (sorted_order t pr xs a.1)
 
--- ---- and there is no other
+-- ---- the order is the only sorted list of these courses
 pub held : (P : Course → Type 0) (xs : List Course) (c : Course) → AllByRecursion P xs → Holds xs c → P c
 held P [] c a h = absurd h
 held P (x ∷ xs) c a (inl e) = subst P e a.0

@@ -1,11 +1,7 @@
 -- Courses on one line: positions, speeds, limits.
-use Rattle.std.specs.Prelude.{◌≡◌, ◌<◌, Bool, true, false, ℤ, pos, negsuc, ◌+ℤ◌, ◌*ℤ◌, ◌≤ℤ◌, ◌<ℤ◌, int_lt}
+use Rattle.std.specs.Prelude.{◌≡◌, ◌<◌, Bool, ℤ, pos, negsuc, ◌+ℤ◌, ◌*ℤ◌, ◌≤ℤ◌, ◌<ℤ◌, int_lt}
 use Rattle.fairway.specs.Times.{Time}
 use Rattle.fairway.specs.declared.course.Course.{Course}
-
--- the answer tells whether P holds
-abbrev pub Decides : Type 0 → Bool → Type 0
-Decides P b = (b ≡ true → P) × (b ≡ false → P → ⊥)
 
 -- the limits of a course: a number, at most 1,000 cm/s either way, and a base at most 33,654,432,000 in size
 pub record InRange (c : Course) : Type 0 where
@@ -23,9 +19,11 @@ place t u = u.base *ℤ pos t.den +ℤ u.speed *ℤ pos t.num
 abbrev pub Level : Time → Course → Course → Type 0
 Level t u w = place t u ≡ place t w
 
+-- u is the slower, as a statement
 abbrev pub Slower : Course → Course → Type 0
 Slower u w = u.speed <ℤ w.speed
 
+-- u is the faster, as a test
 abbrev pub faster : Course → Course → Bool
 faster u w = int_lt w.speed u.speed
 

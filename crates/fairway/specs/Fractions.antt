@@ -24,5 +24,6 @@ pub record CommonDivisor (a b g : ℕ) : Type 0 where
 abbrev pub Coprime : ℕ → ℕ → Type 0
 Coprime a b = (k : ℕ) → k ∣ a → k ∣ b → k ≡ 1
 
+-- a time in lowest terms
 abbrev pub Reduced : Time → Type 0
 Reduced t = Coprime t.num t.den

@@ -4,7 +4,7 @@ use Rattle.std.specs.Ordering.{ordering_then, nat_cmp}
 use Rattle.std.specs.declared.cmp.Ordering.{Ordering}
 use Rattle.event_queue.specs.Refusals.{◌when◌, topmost}
 use Rattle.fairway.specs.Times.{Time, whole_and, ◌=ᵗ◌}
-use Rattle.fairway.specs.Courses.{Decides}
+use Rattle.std.specs.Bool.{Decides}
 use Rattle.fairway.specs.declared.instant.Instant.{Instant}
 use Rattle.fairway.specs.declared.refusal.Refusal.{Refusal}
 use Rattle.fairway.specs.declared.refusal.Refusal.TheVariants.{NoSuchInstant}
@@ -14,7 +14,7 @@ use Rattle.fairway.specs.declared.stamp.Stamp.{Stamp}
 abbrev pub value : Instant → Time
 value i = whole_and i.seconds i.numerator i.denominator
 
--- the same as a plain triple
+-- an instant as a plain triple
 abbrev pub stamp_of : Instant → Stamp
 stamp_of i = record { seconds = i.seconds; numerator = i.numerator; denominator_less_one = i.denominator - 1 }
 
@@ -31,10 +31,11 @@ instant_refusal s n d =
     NoSuchInstant when nat_le d n ∷
     NoSuchInstant when past_last s n ∷ [])
 
--- by whole seconds, then by each numerator times the other's denominator
+-- by each numerator times the other's denominator
 abbrev pub fraction_order : Instant → Instant → Ordering
 fraction_order a b = nat_cmp (a.numerator * b.denominator) (b.numerator * a.denominator)
 
+-- by whole seconds, and then by the fractions
 abbrev pub time_order : Instant → Instant → Ordering
 time_order a b = ordering_then (nat_cmp a.seconds b.seconds) (fraction_order a b)
 
@@ -43,12 +44,12 @@ abbrev pub Made : ℕ → ℕ → ℕ → Result Instant Refusal → Type 0
 Made s n d (Ok i) = (instant_refusal s n d ≡ None) × (value i =ᵗ whole_and s n d)
 Made s n d (Err e) = instant_refusal s n d ≡ Some e
 
--- the same three numbers
+-- two instants have the same three numbers
 abbrev pub SameNumbers : Instant → Instant → Type 0
 SameNumbers a b = (a.seconds ≡ b.seconds) × (a.numerator ≡ b.numerator) × (a.denominator ≡ b.denominator)
 
 -- two instants of equal value are the same three numbers, and the answer tells whether they are
 pub record SameInstant (a b : Instant) (answer : Bool) : Type 0 where
-  pub by_value : Decides (value a =ᵗ value b) answer
-  pub by_numbers : Decides (SameNumbers a b) answer
+  pub by_value : Decides answer (value a =ᵗ value b)
+  pub by_numbers : Decides answer (SameNumbers a b)
   pub one_form : value a =ᵗ value b → SameNumbers a b

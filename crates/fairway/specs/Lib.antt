@@ -8,6 +8,7 @@ pub mod InstantsLemmas
 pub mod Behind
 pub mod Pairs
 pub mod Meetings
+pub mod Pairwise
 pub mod Orders
 pub mod Rosters
 pub mod Runs

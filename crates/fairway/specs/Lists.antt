@@ -1,7 +1,8 @@
 -- What the calls on a list of courses, from rear to front, answer.
-use Rattle.std.specs.Prelude.{◌≡◌, ℕ, zero, suc, ◌+◌, ◌*◌, ◌<◌, ◌≤◌, Bool, true, false, List, [], ◌∷◌, length, Some, None, Option}
+use Rattle.std.specs.Prelude.{◌≡◌, ℕ, zero, suc, ◌+◌, ◌*◌, ◌<◌, ◌≤◌, Bool, true, false, List, [], ◌∷◌, length, swap, Some, None, Option}
+use Rattle.std.specs.Bool.{Decides}
 use Rattle.fairway.specs.Times.{Time, Proper, ◌≤ᵗ◌}
-use Rattle.fairway.specs.Courses.{Decides, Due}
+use Rattle.fairway.specs.Courses.{Due}
 use Rattle.fairway.specs.declared.pair.Pair.{Pair}
 use Rattle.fairway.specs.Orders.{load, Same, Apart, Sorted, order, pair, turned, Exchange}
 use Rattle.fairway.specs.Runs.{OneOrder, LoadFalls, Fewest, MendsTurned, LosesOne}
@@ -17,7 +18,7 @@ pair_at (x ∷ y ∷ ys) (suc i) = pair_at (y ∷ ys) i
 
 -- whether the list is in order; if so, it is the order of every roster with these vessels, each number once
 pub record SortedAnswer (t : Time) (xs : List Course) (answer : Bool) : Type 0 where
-  pub value : Decides (Sorted t xs) answer
+  pub value : Decides answer (Sorted t xs)
   pub is_order : answer ≡ true → (roster : List Course) → Apart roster → Same xs roster → xs ≡ order t roster
   pub one_order : Apart xs → OneOrder t xs
 
@@ -42,24 +43,27 @@ pub record DueAt (t : Time) (xs : List Course) (i : ℕ) : Type 0 where
   pub first : (k : ℕ) (r f : Course) → k < i → pair_at xs k ≡ Some (pair r f) → Due t r f → ⊥
 
 -- the first neighbours that are due; where there are none, a list that stands is in order
-abbrev pub FirstDue : Time → List Course → Option ℕ → Type 0
-FirstDue t xs (Some i) = DueAt t xs i
-FirstDue t xs None = Neighbours (λ r f. Due t r f → ⊥) xs × (Stands t xs → Sorted t xs)
+abbrev pub FirstDuePlace : Time → List Course → Option ℕ → Type 0
+FirstDuePlace t xs (Some i) = DueAt t xs i
+FirstDuePlace t xs None = Neighbours (λ r f. Due t r f → ⊥) xs × (Stands t xs → Sorted t xs)
 
 -- whether no neighbours draw level before u; if so, the list stands until u
 pub record StandsUntil (u : Time) (xs : List Course) (answer : Bool) : Type 0 where
-  pub value : Decides (Neighbours (NotLevelBefore u) xs) answer
+  pub value : Decides answer (Neighbours (NotLevelBefore u) xs)
   pub stands_on : answer ≡ true → (t : Time) → Proper t → t ≤ᵗ u → Stands t xs → Stands u xs
 
--- the neighbours r and f were due and are exchanged
+-- the i-th and the next were r and f, were due, and are exchanged; every other place is as it was
 pub record Exchanged (t : Time) (xs ys : List Course) (i : ℕ) (r f : Course) : Type 0 where
   pub were : pair_at xs i ≡ Some (pair r f)
   pub due : Due t r f
+  pub value : ys ≡ swap xs i (i + 1)
+  -- what that is good for
   pub exchange : Exchange r f xs ys
   pub loses : LosesOne r f xs ys
   pub stands : Stands t xs → Stands t ys
 
--- a mend of the i-th and the next: they were due, or nothing changed
-abbrev pub Mended : Time → List Course → List Course → ℕ → Bool → Type 0
-Mended t xs ys i true = (r : Course) × (f : Course) × Exchanged t xs ys i r f
-Mended t xs ys i false = (ys ≡ xs) × ((r f : Course) → pair_at xs i ≡ Some (pair r f) → Due t r f → ⊥)
+-- a mend of the i-th and the next: they were due, and just these two are exchanged; or they were not, or there are no
+-- two there, and nothing changed
+abbrev pub MendAnswer : Time → List Course → List Course → ℕ → Bool → Type 0
+MendAnswer t xs ys i true = (r : Course) × (f : Course) × Exchanged t xs ys i r f
+MendAnswer t xs ys i false = (ys ≡ xs) × ((r f : Course) → pair_at xs i ≡ Some (pair r f) → Due t r f → ⊥)

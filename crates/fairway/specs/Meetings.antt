@@ -17,16 +17,20 @@ lowest_stamp n d =
       denominator_less_one = d / gcd (n % d) d - 1;
     }
 
--- how far the front is ahead at second 0, and what the rear gains each second
+-- how far the front is ahead at second 0
 abbrev pub gap : Course → Course → ℕ
 gap rear front = unsigned_abs (front.base -ℤ rear.base)
 
+-- what the rear gains each second
 abbrev pub gain : Course → Course → ℕ
 gain rear front = unsigned_abs (rear.speed -ℤ front.speed)
 
 -- the level instant of a pair whose rear is faster and whose meeting is not before second 0
 unfoldable pub level : Course → Course → Option Stamp
-level rear front = cond (faster rear front && int_le rear.base front.base) (Some (lowest_stamp (gap rear front) (gain rear front))) None
+level rear front =
+    cond (faster rear front && int_le rear.base front.base)
+    (Some (lowest_stamp (gap rear front) (gain rear front)))
+    None
 
 -- the pair is in order just until s, and the other way round from s on
 pub record TurnsAt (rear front : Course) (s : Stamp) : Type 0 where
@@ -52,6 +56,7 @@ NeverLevel rear front =
     ((faster rear front ≡ false) × StaysBehind rear front) ⊎
     ((faster rear front ≡ true) × ((t : Time) → Proper t → behind t front rear ≡ true))
 
+-- what the level instant of a pair is, or that there is none
 abbrev pub Meets : Course → Course → Option Stamp → Type 0
 Meets rear front (Some s) = LevelInstant rear front s
 Meets rear front None = NeverLevel rear front

@@ -1,9 +1,10 @@
 -- The vessels from rear to front, pairs of them, and exchanges of neighbours.
 use Rattle.std.specs.Prelude.{◌≡◌, ℕ, zero, suc, Bool, true, cond, ◌&&◌, ◌≢◌, ◌⊎◌, List, [], ◌∷◌, ◌++◌, map, count_by, filter, ◌==◌}
-use Rattle.std.specs.List.{flat_map, AllByRecursion}
+use Rattle.std.specs.List.{flat_map}
 use Rattle.fairway.specs.Times.{Time, ◌≤ᵗ◌, ◌<ᵗ◌}
 use Rattle.fairway.specs.Courses.{faster, Due}
 use Rattle.fairway.specs.Behind.{behind}
+use Rattle.fairway.specs.Pairwise.{Pairwise}
 use Rattle.fairway.specs.declared.course.Course.{Course}
 use Rattle.fairway.specs.declared.pair.Pair.{Pair}
 
@@ -12,25 +13,24 @@ abbrev pub Holds : List Course → Course → Type 0
 Holds [] c = ⊥
 Holds (x ∷ xs) c = (x ≡ c) ⊎ Holds xs c
 
--- the same vessels
+-- two lists hold the same courses
 abbrev pub Same : List Course → List Course → Type 0
 Same xs ys = (c : Course) → (Holds xs c → Holds ys c) × (Holds ys c → Holds xs c)
 
 -- no two have one number
 abbrev pub Apart : List Course → Type 0
-Apart [] = Unit {0}
-Apart (x ∷ xs) = AllByRecursion (λ y. x.number ≢ y.number) xs × Apart xs
+Apart = Pairwise (λ (x y : Course). x.number ≢ y.number)
 
 -- from rear to front at t: each is behind all that come after it
 abbrev pub Sorted : Time → List Course → Type 0
-Sorted t [] = Unit {0}
-Sorted t (x ∷ xs) = AllByRecursion (λ y. behind t x y ≡ true) xs × Sorted t xs
+Sorted t = Pairwise (λ x y. behind t x y ≡ true)
 
--- x put in its place, and the order of a roster
+-- x put before the first, from the rear, that it is behind
 abbrev pub put : Time → Course → List Course → List Course
 put t x [] = x ∷ []
 put t x (y ∷ ys) = cond (behind t x y) (x ∷ y ∷ ys) (y ∷ put t x ys)
 
+-- the order of a roster: each of its courses put in its place
 abbrev pub order : Time → List Course → List Course
 order t [] = []
 order t (x ∷ xs) = put t x (order t xs)
@@ -44,10 +44,11 @@ abbrev pub pairs : List Course → List Pair
 pairs [] = []
 pairs (x ∷ xs) = map (pair x) xs ++ pairs xs
 
--- those with a faster rear, and how many they are
+-- the pairs of an order with a faster rear
 abbrev pub fast : List Course → List Pair
 fast xs = filter (λ p. faster p.rear p.front) (pairs xs)
 
+-- the load of an order: how many of its pairs have a faster rear
 abbrev pub load : List Course → ℕ
 load xs = count_by (λ p. faster p.rear p.front) (pairs xs)
 
@@ -67,6 +68,7 @@ turns t u p = behind t p.rear p.front && behind u p.front p.rear
 abbrev pub twos : List Course → List Pair
 twos xs = flat_map (λ x. map (pair x) xs) xs
 
+-- the pairs of a roster that an advance turns
 abbrev pub turned : Time → Time → List Course → List Pair
 turned t u xs = filter (turns t u) (twos xs)
 
@@ -87,7 +89,8 @@ pub data Run : ℕ → List Course → List Course → Type 0 where
 -- a series of mends at times after t and not after u: each exchanges neighbours that are due
 pub data Mends (t u : Time) : List Course → List Pair → List Course → Type 0 where
   none : {xs : List Course} → Mends t u xs [] xs
-  mend : {r f : Course} {xs ys zs : List Course} {ps : List Pair} → (at : Time) → t <ᵗ at → at ≤ᵗ u → Due at r f → Exchange r f xs ys → Mends t u ys ps zs → Mends t u xs (pair r f ∷ ps) zs
+  mend : {r f : Course} {xs ys zs : List Course} {ps : List Pair} → (at : Time) → t <ᵗ at → at ≤ᵗ u →
+      Due at r f → Exchange r f xs ys → Mends t u ys ps zs → Mends t u xs (pair r f ∷ ps) zs
 
 -- the pair of these two vessels
 abbrev pub is_pair : Course → Course → Pair → Bool

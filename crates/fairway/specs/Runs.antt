@@ -13,6 +13,7 @@ pub record OneOrder (t : Time) (xs : List Course) : Type 0 where
   pub same : Same (order t xs) xs
   pub only : (ys : List Course) → Sorted t ys → Same ys xs → ys ≡ order t xs
 
+-- the order of every roster is such
 abbrev pub OrderIs : Type 0
 OrderIs = (t : Time) → Proper t → (xs : List Course) → Apart xs → OneOrder t xs
 
@@ -35,5 +36,6 @@ MendsTurned t u xs =
 abbrev pub LosesOne : Course → Course → List Course → List Course → Type 0
 LosesOne r f xs ys = IsPermutation (fast xs) (pair r f ∷ fast ys) × (load xs ≡ suc (load ys))
 
+-- every such exchange does
 abbrev pub Loses : Type 0
 Loses = (r f : Course) (xs ys : List Course) → faster r f ≡ true → Exchange r f xs ys → LosesOne r f xs ys

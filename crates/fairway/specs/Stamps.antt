@@ -1,7 +1,7 @@
 -- Stamps: instants as plain triples of numbers, and their comparison.
 use Rattle.std.specs.Prelude.{◌≡◌, ℕ, ◌+◌, ◌*◌, ◌<◌, Bool, ◌&&◌, ◌||◌, ◌==◌, nat_lt}
 use Rattle.fairway.specs.Times.{Time, whole_and, ◌<ᵗ◌}
-use Rattle.fairway.specs.Courses.{Decides}
+use Rattle.std.specs.Bool.{Decides}
 use Rattle.fairway.specs.declared.stamp.Stamp.{Stamp}
 
 -- the denominator
@@ -18,9 +18,10 @@ BelowOne s = s.numerator < den s
 
 -- by whole seconds, then by each numerator times the other's denominator, whatever the numbers are
 unfoldable pub earlier : Stamp → Stamp → Bool
-earlier a b = nat_lt a.seconds b.seconds || (a.seconds == b.seconds && nat_lt (a.numerator * den b) (b.numerator * den a))
+earlier a b =
+    nat_lt a.seconds b.seconds || (a.seconds == b.seconds && nat_lt (a.numerator * den b) (b.numerator * den a))
 
 -- what the comparison answers; it agrees with the order of time where both numerators are below their denominators
 pub record Compared (a b : Stamp) (answer : Bool) : Type 0 where
   pub value : answer ≡ earlier a b
-  pub in_time : BelowOne a → BelowOne b → Decides (time_of a <ᵗ time_of b) answer
+  pub in_time : BelowOne a → BelowOne b → Decides answer (time_of a <ᵗ time_of b)

@@ -1,10 +1,10 @@
 -- The comparison of stamps: a total order, which agrees with the order of time.
 use Rattle.std.specs.Prelude.{◌≡◌, ℕ, ◌+◌, ◌*◌, ◌<◌, ◌≤◌, Bool, true, false, ◌&&◌, ◌||◌, ◌⊎◌, ◌≢◌, ◌==◌, nat_lt}
-use Rattle.std.proofs.Common.{sym, subst, inl, inr, ⊎_elim, add-mul, mul_right_comm, mul-le-mul_right, le_of_mul-le-mul_right, mul-lt-mul_of_pos_right, arith}
-use Rattle.std.proofs.lemmas.Bool.Decides.{nat_tests}
-use Rattle.std.proofs.lemmas.Bool.{cases_order}
+use Rattle.std.proofs.Common.{sym, inl, inr, ⊎_elim, add-mul, mul_right_comm, mul-le-mul_right, le_of_mul-le-mul_right, mul-lt-mul_of_pos_right, arith}
+use Rattle.std.proofs.lemmas.Bool.Decides.{nat_tests, Decides-at}
+use Rattle.std.proofs.lemmas.Bool.{cases_order, cases_Bool}
 use Rattle.fairway.specs.Times.{Proper, ◌≤ᵗ◌, ◌<ᵗ◌}
-use Rattle.fairway.specs.Courses.{Decides}
+use Rattle.std.specs.Bool.{Decides}
 use Rattle.fairway.specs.Stamps.{den, time_of, BelowOne, earlier, Compared}
 use Rattle.fairway.specs.declared.stamp.Stamp.{Stamp}
 
@@ -96,8 +96,11 @@ crossed_lt ts tn td us un ud p pu (inr (e, h)) =
 pub sooner : (t u : Stamp) → BelowOne t → earlier t u ≡ true → time_of t <ᵗ time_of u
 sooner t u p e = crossed_lt t.seconds t.numerator (den t) u.seconds u.numerator (den u) p (omega arith) (early_from t u e)
 
-pub agrees : (a b : Stamp) → BelowOne a → BelowOne b → Decides (time_of a <ᵗ time_of b) (earlier a b)
-agrees a b pa pb = ((λ e. sooner a b pa e), (λ e h. let k = not_later b a pb e in omega arith))
+pub agrees : (a b : Stamp) → BelowOne a → BelowOne b → Decides (earlier a b) (time_of a <ᵗ time_of b)
+agrees a b pa pb = (
+  sooner a b pa,
+  (λ h. ⊎_elim (λ e. e) (λ e. let k = not_later b a pb e in absurd (omega arith)) (cases_Bool (earlier a b))),
+)
 
 pub compared : (a b : Stamp) (r : Bool) → r ≡ earlier a b → Compared a b r
-compared a b r e = record { value = e; in_time = λ pa pb. subst (Decides (time_of a <ᵗ time_of b)) (sym e) (agrees a b pa pb) }
+compared a b r e = record { value = e; in_time = λ pa pb. Decides-at r (earlier a b) e (agrees a b pa pb) }

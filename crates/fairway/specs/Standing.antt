@@ -1,29 +1,25 @@
 -- A list that stands: what lets certificates of neighbours alone keep it right.
-use Rattle.std.specs.Prelude.{◌≡◌, true, ◌⊎◌, List, [], ◌∷◌, pos, ◌-ℤ◌, ◌*ℤ◌, ◌≤ℤ◌}
-use Rattle.std.specs.List.{AllByRecursion}
+use Rattle.std.specs.Prelude.{◌≡◌, true, ◌⊎◌, List, pos, ◌-ℤ◌, ◌*ℤ◌, ◌≤ℤ◌}
 use Rattle.fairway.specs.Times.{Time, Proper, ◌≤ᵗ◌}
 use Rattle.fairway.specs.Courses.{faster, Due}
 use Rattle.fairway.specs.Behind.{behind}
+use Rattle.fairway.specs.Pairwise.{Pairwise}
+pub use Rattle.fairway.specs.Pairwise.{Neighbours}
 use Rattle.fairway.specs.Orders.{Sorted, Exchange}
 use Rattle.fairway.specs.declared.course.Course.{Course}
 
+-- the pair is in order, or due
 abbrev pub InOrderOrDue : Time → Course → Course → Type 0
 InOrderOrDue t r f = (behind t r f ≡ true) ⊎ Due t r f
 
 -- every two, neighbours or not, are in order or due
 abbrev pub Stands : Time → List Course → Type 0
-Stands t [] = Unit {0}
-Stands t (x ∷ xs) = AllByRecursion (InOrderOrDue t x) xs × Stands t xs
-
--- P of each two neighbours
-abbrev pub Neighbours : (Course → Course → Type 0) → List Course → Type 0
-Neighbours P [] = Unit {0}
-Neighbours P (x ∷ []) = Unit {0}
-Neighbours P (x ∷ y ∷ ys) = P x y × Neighbours P (y ∷ ys)
+Stands t = Pairwise (InOrderOrDue t)
 
 -- the pair does not draw level before u
 abbrev pub NotLevelBefore : Time → Course → Course → Type 0
-NotLevelBefore u r f = faster r f ≡ true → ((r.speed -ℤ f.speed) *ℤ pos u.num) ≤ℤ ((f.base -ℤ r.base) *ℤ pos u.den)
+NotLevelBefore u r f =
+    faster r f ≡ true → ((r.speed -ℤ f.speed) *ℤ pos u.num) ≤ℤ ((f.base -ℤ r.base) *ℤ pos u.den)
 
 -- where no neighbours are due, the list is in order
 abbrev pub StandsSorted : Type 0
@@ -31,8 +27,11 @@ StandsSorted = (t : Time) (xs : List Course) → Stands t xs → Neighbours (λ 
 
 -- it stands on until neighbours draw level
 abbrev pub StandsLater : Type 0
-StandsLater = (t u : Time) → Proper t → Proper u → t ≤ᵗ u → (xs : List Course) → Stands t xs → Neighbours (NotLevelBefore u) xs → Stands u xs
+StandsLater =
+    (t u : Time) → Proper t → Proper u → t ≤ᵗ u → (xs : List Course) →
+    Stands t xs → Neighbours (NotLevelBefore u) xs → Stands u xs
 
--- and the exchange of neighbours that are due keeps it standing
+-- the exchange of neighbours that are due keeps it standing
 abbrev pub StandsMended : Type 0
-StandsMended = (t : Time) (r f : Course) (xs ys : List Course) → Stands t xs → Due t r f → Exchange r f xs ys → Stands t ys
+StandsMended =
+    (t : Time) (r f : Course) (xs ys : List Course) → Stands t xs → Due t r f → Exchange r f xs ys → Stands t ys

@@ -7,6 +7,7 @@ pub record Time : Type 0 where
   pub num : ℕ
   pub den : ℕ
 
+-- the time n / d
 abbrev pub ratio : ℕ → ℕ → Time
 ratio n d = record { num = n; den = d }
 
@@ -18,12 +19,14 @@ whole_and s n d = ratio (s * d + n) d
 abbrev pub Proper : Time → Type 0
 Proper t = 0 < t.den
 
--- not later, earlier, and equal in value
+-- not later
 abbrev pub ◌≤ᵗ◌ : Time → Time → Type 0
 t ≤ᵗ u = t.num * u.den ≤ u.num * t.den
 
+-- earlier
 abbrev pub ◌<ᵗ◌ : Time → Time → Type 0
 t <ᵗ u = t.num * u.den < u.num * t.den
 
+-- equal in value
 abbrev pub ◌=ᵗ◌ : Time → Time → Type 0
 t =ᵗ u = t.num * u.den ≡ u.num * t.den

@@ -3,8 +3,8 @@ ghost use Rattle.fairway.specs.Examples.{one_two_five, Examples};
 
 use crate::course::Course;
 
-// Three vessels of the worked examples, from rear to front at second 0: by second 6 they have all passed
-// one another.
+/// Three vessels of the worked examples, from rear to front at second 0: by second 6 they have all passed
+/// one another.
 #[tactic(auto, using(crate::proofs::Examples::examples))]
 pub fn three_vessels() -> [Course; 3]
     ensures value { result ≡ one_two_five }

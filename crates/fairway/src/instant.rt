@@ -5,8 +5,14 @@ mod clock;
 mod comparisons;
 mod numbers;
 
-// An instant of the clock: whole seconds and a fraction of a second in lowest terms, 0/1 where it is whole.
-// The clock runs from 0 to 16,777,216 seconds, and its last second is whole.
+// The clock's last second, which is whole.
+const LAST_SECOND: u64 = 16_777_216;
+
+// The greatest denominator that an instant may have.
+const FINEST: u16 = 1000;
+
+/// An instant of the clock: whole seconds and a fraction of a second in lowest terms, 0/1 where it is whole.
+/// The clock runs from 0 to 16,777,216 seconds, and its last second is whole.
 #[derive(Clone, Copy, PartialEq, Eq, Debug)]
 pub struct Instant {
     seconds: u64,

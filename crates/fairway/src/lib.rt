@@ -1,3 +1,4 @@
+//! The arithmetic of a waterway: instants, courses, who is behind whom and when two draw level, and the order of all.
 #![tactic(auto)]
 
 pub mod course;

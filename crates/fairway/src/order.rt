@@ -1,14 +1,13 @@
 ghost use Rattle.std.specs.Prelude.{◌≡◌, ◌≤◌, length};
 ghost use Rattle.fairway.specs.Stamps.{time_of};
 ghost use Rattle.fairway.specs.Orders.{slower_than, turned_by};
-ghost use Rattle.fairway.specs.Lists.{LoadCount, SortedAnswer, TurnedCount, FirstDue, StandsUntil, Mended};
+ghost use Rattle.fairway.specs.Lists.{LoadCount, SortedAnswer, TurnedCount, FirstDuePlace, StandsUntil, MendAnswer};
 
 use crate::course::Course;
 use crate::pair::Pair;
 use crate::stamp::Stamp;
 
-// How many of the courses are slower than the rear. That counts are at most as many as the courses is a clause of
-// each, since no type says it of a number and a list.
+/// How many of the courses are slower than the rear.
 pub fn count_slower(courses: &[Course], rear: Course) -> usize
     ensures count { result ≡ slower_than rear courses.now }
     ensures few { result ≤ length courses.now }
@@ -19,7 +18,7 @@ pub fn count_slower(courses: &[Course], rear: Course) -> usize
         .count()
 }
 
-// The load of a list from rear to front: how many pairs, the one that comes first as rear, have a faster rear.
+/// The load of a list from rear to front: how many pairs, the one that comes first as rear, have a faster rear.
 pub fn load(courses: &[Course]) -> u128
     ensures { LoadCount courses.now result }
 {
@@ -43,9 +42,7 @@ fn count_turned(courses: &[Course], rear: Course, from: Stamp, to: Stamp) -> usi
         .count()
 }
 
-// How many pairs of a roster an advance turns: the one that is behind at its beginning is in front at its end.
-// Beginning and end are two parameters here and of a pair: a struct of the two would be made by each caller for
-// this one question.
+/// How many pairs of a roster an advance turns: the one that is behind at its beginning is in front at its end.
 pub fn turned_pairs(courses: &[Course], from: Stamp, to: Stamp) -> u128
     ensures { TurnedCount (time_of from) (time_of to) courses.now result }
 {
@@ -55,23 +52,23 @@ pub fn turned_pairs(courses: &[Course], from: Stamp, to: Stamp) -> u128
         .sum()
 }
 
-// Whether a list is in order from rear to front.
+/// Whether a list is in order from rear to front.
 pub fn is_sorted(courses: &[Course], at: Stamp) -> bool
     ensures { SortedAnswer (time_of at) courses.now result }
 {
     courses.is_sorted_by(|rear, front| rear.is_behind(*front, at))
 }
 
-// The place of the first course that is due to pass the next one, or none.
+/// The place of the first course that is due to pass the next one, or none.
 pub fn first_due(courses: &[Course], at: Stamp) -> Option<usize>
-    ensures { FirstDue (time_of at) courses.now result }
+    ensures { FirstDuePlace (time_of at) courses.now result }
 {
     courses
         .windows(2)
         .position(|two| Pair::new(two[0], two[1]).is_due(at))
 }
 
-// Whether no neighbours draw level before a stamp.
+/// Whether no neighbours draw level before a stamp.
 pub fn stands_until(courses: &[Course], at: Stamp) -> bool
     ensures { StandsUntil (time_of at) courses.now result }
 {
@@ -80,9 +77,10 @@ pub fn stands_until(courses: &[Course], at: Stamp) -> bool
         .any(|two| Pair::new(two[0], two[1]).is_past(at))
 }
 
-// Exchanges the course at a place and the next one if they are due, and answers whether they were.
+/// Exchanges the course at a place and the next one if they are due, and answers whether they were. A place with no
+/// next one answers false, and nothing changes.
 pub fn mend(courses: &mut [Course], place: usize, at: Stamp) -> bool
-    ensures { Mended (time_of at) courses.old courses.new place result }
+    ensures { MendAnswer (time_of at) courses.old courses.new place result }
 {
     let [rear, front, ..] = courses.get(place..).unwrap_or(&[]) else {
         return false;

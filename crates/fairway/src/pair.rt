@@ -1,43 +1,47 @@
 ghost use Rattle.std.specs.Prelude.{◌≡◌, ◌*◌, ◌<◌};
+ghost use Rattle.std.specs.Bool.{Decides};
 ghost use Rattle.fairway.specs.Stamps.{time_of};
-ghost use Rattle.fairway.specs.Courses.{Decides, Due};
+ghost use Rattle.fairway.specs.Courses.{Due};
 ghost use Rattle.fairway.specs.Meetings.{lowest_stamp, LevelAnswer};
 ghost use Rattle.fairway.specs.Orders.{turns, pair};
-ghost use Rattle.fairway.specs.Pairs.{InOrder, Past};
+ghost use Rattle.fairway.specs.Pairs.{InOrderAnswer, PastLevelAnswer};
 
 use crate::course::{Course, narrow_parts_of, parts_of};
 use crate::euclid::greatest_common_divisor;
 use crate::stamp::Stamp;
 
-// Two vessels, one as the rear and one as the front.
+/// Two vessels, one as the rear and one as the front.
 #[derive(Clone, Copy, PartialEq, Eq, Debug)]
 pub struct Pair {
+    /// The one that is asked to be behind.
     pub rear: Course,
+    /// The one that is asked to be in front.
     pub front: Course,
 }
 
 impl Pair {
-    // The pair of a rear and a front.
+    /// The pair of a rear and a front.
     pub fn new(rear: Course, front: Course) -> Pair
         ensures { result ≡ pair rear front }
     {
         Pair { rear, front }
     }
 
-    // Whether the pair is in order: the rear is behind the front.
+    /// Whether the pair is in order: the rear is behind the front.
     pub fn is_in_order(self, at: Stamp) -> bool
-        ensures { InOrder (time_of at) self.rear self.front result }
+        ensures { InOrderAnswer (time_of at) self.rear self.front result }
     {
         self.rear.is_behind(self.front, at)
     }
 
-    // Whether the pair is due: level, and the rear is faster. A rear that was ahead at second 0 is never level again.
+    /// Whether the pair is due: level, and the rear is faster.
     pub fn is_due(self, at: Stamp) -> bool
-        ensures { Decides (Due (time_of at) self.rear self.front) result }
+        ensures { Decides result (Due (time_of at) self.rear self.front) }
     {
         if !self.rear.is_faster(self.front) {
             return false;
         }
+        // a faster rear that was ahead at second 0 is never level again
         if self.front.base < self.rear.base {
             return false;
         }
@@ -48,27 +52,27 @@ impl Pair {
         )
     }
 
-    // Whether an advance turns the pair: in order at its beginning, and the other way round at its end.
+    /// Whether an advance turns the pair: in order at its beginning, and the other way round at its end.
     pub fn is_turned(self, from: Stamp, to: Stamp) -> bool
         ensures { result ≡ turns (time_of from) (time_of to) self }
     {
         self.rear.is_behind(self.front, from) && self.front.is_behind(self.rear, to)
     }
 
-    // Whether the pair has drawn level before a stamp: the rear is faster, and past the front.
+    /// Whether the pair has drawn level before a stamp: the rear is faster, and past the front.
     pub fn is_past(self, at: Stamp) -> bool
-        ensures { Past (time_of at) self.rear self.front result }
+        ensures { PastLevelAnswer (time_of at) self.rear self.front result }
     {
         self.rear.is_faster(self.front) && self.front.position_at(at) < self.rear.position_at(at)
     }
 
-    // The instant at which the rear draws level with the front, in lowest terms; or none where the rear
-    // is not faster, or has passed before second 0. It is exact for every pair of courses.
+    /// The instant at which the rear draws level with the front, in lowest terms; or none where the rear
+    /// is not faster, or has passed before second 0. It is exact for every pair of courses.
     pub fn level_instant(self) -> Option<Stamp>
         ensures { LevelAnswer self.rear self.front result }
     {
         let (rear, front) = (self.rear, self.front);
-        // two conditions with an answer each: no none is passed on
+        // two tests, each with an answer of its own in the contract
         if !rear.is_faster(front) {
             return None;
         }
@@ -82,20 +86,26 @@ impl Pair {
     }
 }
 
+// A distance up to this one, times any denominator, fits 64 bits.
+const NARROW_DISTANCE: u64 = 1 << 47;
+
+// A time before this second, in parts of a second, times the difference of any two speeds fits 64 bits.
+const NARROW_SECONDS: u64 = 1 << 31;
+
 // Whether a speed makes up a distance just at a stamp. It is reckoned in 64 bits where both products fit them.
 fn is_made_up(distance: u64, speed: u16, at: Stamp) -> bool
-    ensures { Decides ((time_of at).num * speed ≡ distance * (time_of at).den) result }
+    ensures { Decides result ((time_of at).num * speed ≡ distance * (time_of at).den) }
 {
-    if distance > 1 << 47 || at.seconds >= 1 << 31 {
+    if distance > NARROW_DISTANCE || at.seconds >= NARROW_SECONDS {
         return is_made_up_wide(distance, speed, at);
     }
     narrow_parts_of(at) * speed as u64 == distance * (at.denominator_less_one as u64 + 1)
 }
 
-// The same in 128 bits, whatever the numbers are.
+// Whether a speed makes up a distance just at a stamp, in 128 bits, which hold the products of any such numbers.
 #[cold]
 fn is_made_up_wide(distance: u64, speed: u16, at: Stamp) -> bool
-    ensures { Decides ((time_of at).num * speed ≡ distance * (time_of at).den) result }
+    ensures { Decides result ((time_of at).num * speed ≡ distance * (time_of at).den) }
 {
     parts_of(at) * speed as u128 == distance as u128 * (at.denominator_less_one as u128 + 1)
 }

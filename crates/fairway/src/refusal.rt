@@ -1,10 +1,10 @@
 ghost use Rattle.std.specs.Prelude.{◌≡◌};
 ghost use Rattle.fairway.specs.Refusals.{refusal_number};
 
-// Why numbers were refused.
+/// Why numbers were refused.
 #[derive(Clone, Copy, PartialEq, Eq, Debug)]
 pub enum Refusal {
-    // the numbers are no instant of the clock
+    /// The numbers are no instant of the clock: 7.
     NoSuchInstant,
 }
 

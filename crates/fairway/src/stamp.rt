@@ -3,19 +3,21 @@ ghost use Rattle.fairway.specs.StampsLemmas as Stamps;
 
 use event_queue::key::Key;
 
-// An instant in plain numbers, for cells and rows: whole seconds, numerator, denominator less one. Any
-// three numbers make a stamp, in lowest terms or not.
+/// An instant in plain numbers, for cells and rows. Any three numbers make a stamp, in lowest terms or not.
 #[derive(Clone, Copy, PartialEq, Eq, Debug)]
 pub struct Stamp {
+    /// Whole seconds.
     pub seconds: u64,
+    /// The numerator of the fraction of a second.
     pub numerator: u16,
+    /// The denominator less one, so that each number makes a denominator from 1 to 65,536.
     pub denominator_less_one: u16,
 }
 
 impl Stamp {
-    // Whether this stamp is earlier: by whole seconds, then by each numerator times the other's denominator.
-    // It is no `PartialOrd`: 1/2 and 2/4 are different stamps, and neither is earlier, so no order that
-    // agrees with `==` answers this.
+    /// Whether this stamp is earlier: by whole seconds, then by each numerator times the other's denominator.
+    /// It is no `PartialOrd`: 1/2 and 2/4 are different stamps, and neither is earlier, so no order that
+    /// agrees with `==` answers this.
     pub fn is_earlier(&self, other: &Stamp) -> bool
         ensures { Compared self.now other.now result }
     {

@@ -1,6 +1,6 @@
+//! Examples of the fairway's calls, run.
 #![tactic(auto)]
 
-// Examples of the fairway's calls, run.
 #[cfg(test)]
 mod tests {
     use binary_heap::cell::Cell;
@@ -23,6 +23,7 @@ mod tests {
         }
     }
 
+    // A stamp by its three numbers.
     fn stamp(seconds: u64, numerator: u16, denominator_less_one: u16) -> Stamp {
         Stamp {
             seconds,

@@ -1,15 +1,20 @@
+//! Examples of both heaps side by side: what the one answers is compared with what the other does.
 #![tactic(auto)]
 
 #[cfg(test)]
 mod tests {
     use binary_heap::cell::Cell;
     use binary_heap::heap::BinaryHeap;
-    use event_queue::queue::Queue;
+    use call_sheet::sheet::CallSheet;
+    use event_queue::queue::{MOST_TICKETS, Queue};
     use pairing_heap::heap::PairingHeap;
     use pairing_heap::node::Node;
     use radio_watch::watch::stand_watch;
     use std::process::Abort;
     use std::test::Fail;
+
+    // How many cells are lent at most: some more than a queue uses.
+    const MOST_CELLS: usize = 70;
 
     // A cell with a key and a slot that a new heap does not heed.
     const CELL: Cell<u32> = Cell {
@@ -71,46 +76,48 @@ mod tests {
     #[test]
     fn edges(rt: HostRuntime) {
         for (count, capacity) in [(0, 0), (1, 1), (63, 63), (64, 64), (65, 64), (70, 64)] {
-            assert!(rt; count <= 70);
-            let mut cells = [CELL; 70];
-            let mut nodes = [NODE; 70];
+            assert!(rt; count <= MOST_CELLS);
+            let mut cells = [CELL; MOST_CELLS];
+            let mut nodes = [NODE; MOST_CELLS];
             let mut a: BinaryHeap<u32> = BinaryHeap::new(&mut cells[0..count]);
             let mut b: PairingHeap<u32> = PairingHeap::new(&mut nodes[0..count]);
             fill_and_empty(&rt, &mut a, &mut b, capacity);
-            assert!(rt; nodes[63].key.is_none() == (capacity == 64));
-            assert!(rt; nodes[64].key.is_some());
+            assert!(rt; nodes[MOST_TICKETS - 1].key.is_none() == (capacity == MOST_TICKETS));
+            assert!(rt; nodes[MOST_TICKETS].key.is_some());
         }
     }
 
     // A long run of calls at distinct keys, refused ones among them, until both heaps are empty.
     #[test]
     fn same_answers(rt: HostRuntime) {
-        let mut cells = [CELL; 64];
-        let mut nodes = [NODE; 64];
+        let mut cells = [CELL; MOST_TICKETS];
+        let mut nodes = [NODE; MOST_TICKETS];
         let mut a: BinaryHeap<u32> = BinaryHeap::new(&mut cells);
         let mut b: PairingHeap<u32> = PairingHeap::new(&mut nodes);
         for turn in 0..2000 {
             assert!(rt; agree(&mut a, &mut b, turn));
         }
         assert!(rt; b.size() > 0);
-        for _ in 0..65 {
+        for _ in 0..MOST_TICKETS + 1 {
             assert!(rt; a.take(u32::MAX) == b.take(u32::MAX));
         }
         assert!(rt; b.size() == 0);
     }
 
-    // A watch with no two lines awaited at one second: the report is the same over both heaps.
+    // A watch with no two lines awaited at one second: the report is the same over both heaps, and the cells past the
+    // 64th keep what they held under the sheet too.
     #[test]
     fn same_reports(rt: HostRuntime) -> Result<(), Fail> {
         let script =
             b"await 3 600\nawait 7 540\nawait 9 610\nawait 3 700\noverdue 599\nheard 9\noverdue 800\noverdue 800\nhail 3\nheard 64";
-        let mut cells = [CELL; 64];
-        let mut nodes = [NODE; 64];
+        let mut cells = [CELL; MOST_CELLS];
+        let mut nodes = [NODE; MOST_CELLS];
         let a: BinaryHeap<u32> = BinaryHeap::new(&mut cells);
         let b: PairingHeap<u32> = PairingHeap::new(&mut nodes);
-        let first = stand_watch(rt.alloc(), a, script)?;
-        let second = stand_watch(rt.alloc(), b, script)?;
+        let first = stand_watch(rt.alloc(), &mut CallSheet::new(a), script)?;
+        let second = stand_watch(rt.alloc(), &mut CallSheet::new(b), script)?;
         assert_eq!(rt; first.as_str(), second.as_str());
+        assert!(rt; cells[MOST_TICKETS].key == CELL.key && nodes[MOST_TICKETS].key == NODE.key);
         Ok(())
     }
 }

@@ -1,6 +1,6 @@
 -- Mending until none is due, on any structure.
 use Rattle.std.proofs.Common.{◌≡◌, ℕ, ◌+◌, ◌<◌, ◌≤◌, true, false, List, Some, None, Ok, Err, Option, Result, MatchOption, sym, ◌∙◌, subst, arith}
-use Rattle.fairway.specs.Times.{Time}
+use Rattle.fairway.specs.Times.{Time, Proper}
 use Rattle.fairway.specs.declared.course.Course.{Course}
 use Rattle.kinetic.specs.Limits.{due}
 use Rattle.kinetic.specs.Structures.{Meaning, NoneDue, Front, InFront, Certified, Mended, Mend}
@@ -43,13 +43,13 @@ module _ {S : Type 0} (m : Meaning S) where
         stands = λ st. let x = w.stands st in let z = y.stands x.0 in (z.0, omega (arith, x.1, z.1));
       }
 
-  pub settled : InFront m → (t : Time) (s s' : S) (k : ℕ) (v : Option ℕ) → v ≡ m.foremost s' → Midway t s s' k → NoneDue m t s' → Settled m t s s' v
-  settled law t s s' k v e w n =
+  pub settled : InFront m → (t : Time) → Proper t → (s s' : S) (k : ℕ) (v : Option ℕ) → v ≡ m.foremost s' → Midway t s s' k → NoneDue m t s' → Settled m t s s' v
+  settled law t p s s' k v e w n =
       record {
         roster = w.roster;
         answer_is = e;
         rests = λ st. ((w.stands st).0, n);
-        front = λ st. same_front t (m.roster s') (m.roster s) v w.roster (subst (Front t (m.roster s')) (sym e) (law t s' ((w.stands st).0, n)));
+        front = λ st. same_front t (m.roster s') (m.roster s) v w.roster (subst (Front t (m.roster s')) (sym e) (law t s' p ((w.stands st).0, n)));
       }
 
   -- more mends than the load cannot be of a structure that stood

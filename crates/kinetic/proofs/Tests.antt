@@ -3,11 +3,10 @@ use Rattle.std.proofs.Common.{◌≡◌, ◌<◌, Bool, true, false, not, Some, 
 use Rattle.std.proofs.lemmas.Int.{ints}
 use Rattle.std.proofs.lemmas.Bool.{both_ways, cases_Bool, false≢true}
 use Rattle.fairway.specs.Times.{Time}
-use Rattle.fairway.specs.Courses.{Decides, InRange, Due}
+use Rattle.std.specs.Bool.{Decides}
+use Rattle.fairway.specs.Courses.{InRange, Due}
 use Rattle.fairway.specs.declared.course.Course.{Course}
 use Rattle.kinetic.specs.Limits.{out_of_range, pair_due, due}
-use Rattle.fairway.specs.Orders.{pair}
-use Rattle.fairway.specs.declared.pair.Pair.{Pair}
 
 pub within : (c : Course) → out_of_range c ≡ false → 0 < c.number → InRange c
 unfolding out_of_range
@@ -18,10 +17,10 @@ unfolding out_of_range
 of_range c r = grind (arith, ints)
 
 -- the range under another number
-pub told_out : (c : Course) (b : Bool) → Decides (InRange (record { number = 1; speed = c.speed; base = c.base })) b → not b ≡ out_of_range c
+pub told_out : (c : Course) (b : Bool) → Decides b (InRange (record { number = 1; speed = c.speed; base = c.base })) → not b ≡ out_of_range c
 unfolding out_of_range
 told_out c true d = let r = d.0 refl in let e = of_range _ r in sym e
-told_out c false d = ⊎_elim (λ e. sym e) (λ e. absurd (d.1 refl (within _ e (omega arith)))) (cases_Bool (out_of_range c))
+told_out c false d = ⊎_elim (λ e. sym e) (λ e. absurd (false≢true (d.1 (within _ e (omega arith))))) (cases_Bool (out_of_range c))
 
 -- ---- a pair that is due
 pub pair_is_due : (t : Time) (r f : Course) → pair_due t r f ≡ true → Due t r f
@@ -33,23 +32,23 @@ unfolding pair_due
 is_pair_due t r f d = grind (arith, ints)
 
 -- an answer that tells whether the pair is due is the test
-pub told : (t : Time) (r f : Course) (b : Bool) → Decides (Due t r f) b → b ≡ pair_due t r f
+pub told : (t : Time) (r f : Course) (b : Bool) → Decides b (Due t r f) → b ≡ pair_due t r f
 unfolding pair_due
 told t r f b d = grind (arith, ints)
 
 -- ---- a certificate that is due
 -- an answer that tells whether the pair is due, or false where there is none
-pub told_due : (t : Time) (o : Option Pair) (b : Bool) → MatchOption o (b ≡ false) (λ p. Decides (Due t p.rear p.front) b) → b ≡ due t o
+pub told_due : (t : Time) (o : Option (Course × Course)) (b : Bool) → MatchOption o (b ≡ false) (λ p. Decides b (Due t p.0 p.1)) → b ≡ due t o
 told_due t None b h = h
-told_due t (Some p) b h = told t p.rear p.front b h
+told_due t (Some p) b h = told t p.0 p.1 b h
 
-pub due_pair : (t : Time) (o : Option Pair) → due t o ≡ true → (r : Course) × (f : Course) × (o ≡ Some (pair r f)) × Due t r f
+pub due_pair : (t : Time) (o : Option (Course × Course)) → due t o ≡ true → (r : Course) × (f : Course) × (o ≡ Some (r, f)) × Due t r f
 due_pair t None e = absurd (false≢true e)
-due_pair t (Some p) e = (p.rear, p.front, refl, pair_is_due t p.rear p.front e)
+due_pair t (Some p) e = (p.0, p.1, refl, pair_is_due t p.0 p.1 e)
 
-pub not_due : (t : Time) (o : Option Pair) → due t o ≡ false → (r f : Course) → o ≡ Some (pair r f) → Due t r f → ⊥
+pub not_due : (t : Time) (o : Option (Course × Course)) → due t o ≡ false → (r f : Course) → o ≡ Some (r, f) → Due t r f → ⊥
 not_due t o e r f q d = both_ways (due t o) e (ap (due t) q ∙ is_pair_due t r f d)
 
 -- an answer on a certificate, as one on what the structure means by it
-pub tested : (t : Time) (o p : Option Pair) (b : Bool) → b ≡ due t o → o ≡ p → due t p ≡ b
+pub tested : (t : Time) (o p : Option (Course × Course)) (b : Bool) → b ≡ due t o → o ≡ p → due t p ≡ b
 tested t o p b e q = sym (e ∙ ap (due t) q)

@@ -3,6 +3,7 @@ use Rattle.std.specs.Prelude.{ℕ}
 use Rattle.kinetic.specs.declared.refusal.Refusal.{Refusal}
 use Rattle.kinetic.specs.declared.refusal.Refusal.TheVariants.{NumberZero, OutOfRange, AlreadyAboard, Full, UnknownVessel, NotDue}
 
+-- the number of a refusal
 abbrev pub refusal_number : Refusal → ℕ
 refusal_number NumberZero = 1
 refusal_number OutOfRange = 2

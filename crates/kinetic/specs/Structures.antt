@@ -12,8 +12,6 @@ use Rattle.kinetic.specs.Numbers.{among}
 use Rattle.kinetic.specs.declared.numbers.Numbers.{Numbers}
 use Rattle.kinetic.specs.declared.refusal.Refusal.{Refusal}
 use Rattle.kinetic.specs.declared.refusal.Refusal.TheVariants.{NumberZero, OutOfRange, AlreadyAboard, Full, UnknownVessel, NotDue}
-use Rattle.fairway.specs.Orders.{pair}
-use Rattle.fairway.specs.declared.pair.Pair.{Pair}
 
 -- The meaning of a structure of the type S.
 pub record Meaning (S : Type 0) : Type 1 where
@@ -28,7 +26,7 @@ pub record Meaning (S : Type 0) : Type 1 where
   -- a measure that each mend lowers
   pub load : S → ℕ
   -- the pair of each certificate number, rear first, or none
-  pub certificate : S → ℕ → Option Pair
+  pub certificate : S → ℕ → Option (Course × Course)
   -- what a mend of the pair rear, front makes of a structure, beyond what every mend does
   pub mended : Course → Course → S → S → Type 0
 
@@ -39,7 +37,9 @@ vessels roster = count_below (λ n. is_some (roster n)) 65536
 -- in front of all others of a roster at t; none on an empty roster
 abbrev pub Front : Time → (ℕ → Option Course) → Option ℕ → Type 0
 Front t roster None = (n : ℕ) → roster n ≡ None
-Front t roster (Some v) = (c : Course) × (roster v ≡ Some c) × ((n : ℕ) (d : Course) → (n ≢ v) → roster n ≡ Some d → behind t d c ≡ true)
+Front t roster (Some v) =
+    (c : Course) × (roster v ≡ Some c) ×
+    ((n : ℕ) (d : Course) → (n ≢ v) → roster n ≡ Some d → behind t d c ≡ true)
 
 -- what is known of a vessel aboard
 pub record Aboard (n : ℕ) (c : Course) : Type 0 where
@@ -50,7 +50,7 @@ pub record Aboard (n : ℕ) (c : Course) : Type 0 where
 module _ {S : Type 0} (m : Meaning S) where
   -- P of each certificate
   abbrev pub EachCertificate : (Course → Course → Type 0) → S → Type 0
-  EachCertificate P s = (i : ℕ) (rear front : Course) → m.certificate s i ≡ Some (pair rear front) → P rear front
+  EachCertificate P s = (i : ℕ) (rear front : Course) → m.certificate s i ≡ Some (rear, front) → P rear front
 
   -- no certificate is due
   abbrev pub NoneDue : Time → S → Type 0
@@ -60,23 +60,31 @@ module _ {S : Type 0} (m : Meaning S) where
   abbrev pub Rests : Time → S → Type 0
   Rests t s = m.standing t s × NoneDue t s
 
-  -- ---- what a structure shows
+  -- ---- what a structure shows, of proper times: those with a denominator above 0
 
   -- standing, each certificate is in order or due
   abbrev pub InOrder : Type 0
-  InOrder = (t : Time) (s : S) → m.standing t s → EachCertificate (InOrderOrDue t) s
+  InOrder = (t : Time) (s : S) → Proper t → m.standing t s → EachCertificate (InOrderOrDue t) s
 
   -- resting, the foremost is in front of all others
   abbrev pub InFront : Type 0
-  InFront = (t : Time) (s : S) → Rests t s → Front t (m.roster s) (m.foremost s)
+  InFront = (t : Time) (s : S) → Proper t → Rests t s → Front t (m.roster s) (m.foremost s)
 
   -- it stands on until a certificate draws level
   abbrev pub Lasting : Type 0
-  Lasting = (t u : Time) (s : S) → Proper t → Proper u → t ≤ᵗ u → m.standing t s → EachCertificate (NotLevelBefore u) s → m.standing u s
+  Lasting =
+      (t u : Time) (s : S) → Proper t → Proper u → t ≤ᵗ u →
+      m.standing t s → EachCertificate (NotLevelBefore u) s → m.standing u s
+
+  -- standing with a certificate due, it has a load, which the mend of it would lower
+  abbrev pub Loaded : Type 0
+  Loaded = (t : Time) (s : S) → Proper t → m.standing t s → EachCertificate (λ rear front. Due t rear front → 0 < m.load s) s
 
   -- certificates have numbers below 64, and are of two vessels aboard
   abbrev pub Certified : Type 0
-  Certified = (s : S) (i : ℕ) (rear front : Course) → m.certificate s i ≡ Some (pair rear front) → (i < 64) × (m.roster s rear.number ≡ Some rear) × (m.roster s front.number ≡ Some front)
+  Certified =
+      (s : S) (i : ℕ) (rear front : Course) → m.certificate s i ≡ Some (rear, front) →
+      (i < 64) × (m.roster s rear.number ≡ Some rear) × (m.roster s front.number ≡ Some front)
 
   -- a vessel aboard has the number that it is asked by, and a course in range
   abbrev pub Listed : Type 0
@@ -92,6 +100,7 @@ module _ {S : Type 0} (m : Meaning S) where
 
   -- ---- refusals, each call's from the top
 
+  -- of enter
   abbrev pub enter_refusal : S → Course → Option Refusal
   enter_refusal s c =
       topmost (
@@ -107,6 +116,7 @@ module _ {S : Type 0} (m : Meaning S) where
       NumberZero when nat_eq n 0 ∷
       UnknownVessel when not (is_some (m.roster s n)) ∷ [])
 
+  -- of steer
   abbrev pub steer_refusal : S → Course → Option Refusal
   steer_refusal s c =
       topmost (
@@ -114,6 +124,7 @@ module _ {S : Type 0} (m : Meaning S) where
       OutOfRange when out_of_range c ∷
       UnknownVessel when not (is_some (m.roster s c.number)) ∷ [])
 
+  -- of mend
   abbrev pub mend_refusal : Time → S → ℕ → Option Refusal
   mend_refusal t s i = topmost (NotDue when not (due t (m.certificate s i)) ∷ [])
 
@@ -135,14 +146,14 @@ module _ {S : Type 0} (m : Meaning S) where
     pub roster : (n : ℕ) → m.roster s' n ≡ m.roster s n
     pub named : Named s s' numbers
     pub stands : m.standing t s → m.standing t s' × (m.load s' < m.load s)
-    pub by : (rear front : Course) → m.certificate s i ≡ Some (pair rear front) → m.mended rear front s s'
+    pub by : (rear front : Course) → m.certificate s i ≡ Some (rear, front) → m.mended rear front s s'
 
   -- nothing is left
   pub record Cleared (s' : S) : Type 0 where
     pub roster : (n : ℕ) → m.roster s' n ≡ None
     pub certificates : (i : ℕ) → m.certificate s' i ≡ None
     pub load : m.load s' ≡ 0
-    pub stands : (t : Time) → m.standing t s'
+    pub stands : (t : Time) → Proper t → m.standing t s'
 
   -- the four changes: what was done, or why it was refused and that nothing changed
   abbrev pub Entered : Time → S → S → Course → Result Numbers Refusal → Type 0

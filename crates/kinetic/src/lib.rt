@@ -1,3 +1,4 @@
+//! Kinetic structures: the interface of what keeps something about moving vessels right, and what serves every one.
 #![tactic(auto)]
 
 pub mod limits;

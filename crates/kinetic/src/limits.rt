@@ -8,8 +8,8 @@ use fairway::course::Course;
 use fairway::pair::Pair;
 use fairway::stamp::Stamp;
 
-// Whether the speed is above 1,000 or the base above 33,654,432,000 in size: whether the course is out of range
-// under any number.
+/// Whether the speed is above 1,000 or the base above 33,654,432,000 in size: whether the course is out of range
+/// under any number.
 pub fn is_out_of_range(course: Course) -> bool
     ensures value { result ≡ out_of_range course }
     ensures within { result ≡ false → 0 < course.number → InRange course }
@@ -22,7 +22,7 @@ pub fn is_out_of_range(course: Course) -> bool
     !numbered.is_in_range()
 }
 
-// Refuses a course that has no number, or is out of range: the first lines of the tables of enter and steer.
+/// Refuses a course that has no number, or is out of range: the first lines of the tables of enter and steer.
 pub fn check(course: Course) -> Result<(), Refusal>
     ensures { Checked course result }
 {
@@ -35,9 +35,9 @@ pub fn check(course: Course) -> Result<(), Refusal>
     Ok(())
 }
 
-// Whether a certificate, if there is one, is due: the two are level, and the rear is faster.
-pub fn is_certificate_due(certificate: Option<Pair>, at: Stamp) -> bool
+/// Whether a certificate, if there is one, is due: the two are level, and the rear is faster.
+pub fn is_certificate_due(certificate: Option<(Course, Course)>, at: Stamp) -> bool
     ensures { result ≡ due (time_of at) certificate }
 {
-    certificate.is_some_and(|pair| pair.is_due(at))
+    certificate.is_some_and(|(rear, front)| Pair::new(rear, front).is_due(at))
 }

@@ -3,13 +3,16 @@ ghost use Rattle.kinetic.specs.Numbers.{Pushed};
 
 use std::marker::Model;
 
-// At most 64 certificate numbers, one after the other: whoever reads them pays for as many as there are.
-// They stand in a buffer with their count beside it, since a change of a structure asks for no memory. Its
-// answer is copied like a number, so they are bytes: all certificate numbers are below 64.
+/// How many certificate numbers there are: all are below it.
+pub const CERTIFICATES: usize = 64;
+
+/// A list of at most 64 certificate numbers: whoever reads it pays for as many as there are. Its memory has a fixed
+/// size, since a change of a structure asks for none; it is bytes, since all certificate numbers are below 64 and the
+/// list is copied as it is handed on.
 #[derive(Clone, Copy)]
 pub struct Numbers {
     count: usize,
-    numbers: [u8; 64],
+    numbers: [u8; CERTIFICATES],
 }
 
 // A clause sees the numbers, in the order in which they were added. Behind them the buffer is zero, so that
@@ -33,28 +36,28 @@ impl Model for Numbers {
 }
 
 impl Numbers {
-    // No number.
+    /// No number.
     pub fn new() -> Numbers
         ensures { result ≡ [] }
     {
         Numbers {
             count: 0,
-            numbers: [0; 64],
+            numbers: [0; CERTIFICATES],
         }
     }
 
-    // Adds a number behind the others; where 64 are there already, nothing changes.
+    /// Adds a number behind the others; where 64 are there already, nothing changes.
     pub fn push(&mut self, number: u8)
         ensures { Pushed self.old self.new number }
     {
-        if self.count >= 64 {
+        if self.count >= CERTIFICATES {
             return;
         }
         self.numbers[self.count] = number;
         self.count += 1;
     }
 
-    // The numbers, in the order in which they were added.
+    /// The numbers, in the order in which they were added.
     pub fn as_slice(&self) -> &[u8]
         ensures value { result.now ≡ self.now }
         ensures few { length result.now ≤ 64 }

@@ -1,20 +1,20 @@
 ghost use Rattle.std.specs.Prelude.{◌≡◌};
 ghost use Rattle.kinetic.specs.Refusals.{refusal_number};
 
-// Why a kinetic structure refused a call.
+/// Why a kinetic structure refused a call.
 #[derive(Clone, Copy, PartialEq, Eq, Debug)]
 pub enum Refusal {
-    // the vessel's number is 0
+    /// The vessel's number is 0: 1.
     NumberZero,
-    // the speed or the base is out of range
+    /// The speed or the base is out of range: 2.
     OutOfRange,
-    // a vessel of that number is aboard already
+    /// A vessel of that number is aboard already: 4.
     AlreadyAboard,
-    // 64 vessels are aboard
+    /// 64 vessels are aboard: 5.
     Full,
-    // no vessel of that number is aboard
+    /// No vessel of that number is aboard: 6.
     UnknownVessel,
-    // there is no certificate of that number, or it is not due
+    /// There is no certificate of that number, or it is not due: 6.
     NotDue,
 }
 

@@ -18,6 +18,7 @@ instant_text s = decimal s.seconds ++ fraction_text s
 abbrev pub vessel_text : ℕ → List ℕ
 vessel_text n = codes " " ++ decimal n
 
+-- the numbers of vessels, each with a blank before it
 abbrev pub vessel_texts : List ℕ → List ℕ
 vessel_texts ns = flat_map vessel_text ns
 

@@ -1,3 +1,4 @@
+//! Text lines of orders and stops, written onto a lent page.
 #![tactic(auto)]
 
 mod digits;

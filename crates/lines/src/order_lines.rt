@@ -1,7 +1,7 @@
 ghost use Rattle.std.specs.Prelude.{◌≡◌, ◌≤◌, length};
 ghost use Rattle.fairway.specs.Instants.{stamp_of};
 ghost use Rattle.lines.specs.Lines.{from_front, order_line, Lined};
-ghost use Rattle.lines.specs.Puts.{Put};
+ghost use Rattle.lines.specs.Puts.{RoomBefore, Put};
 
 use crate::instants::{instant_length, put_instant};
 use crate::put::put_text;
@@ -19,7 +19,7 @@ fn order_length(at: Instant, courses: &[Course]) -> usize
 
 // Puts an order line before `end`, and answers where it starts.
 fn put_order_line(at: Instant, courses: &[Course], page: &mut [u8], end: usize) -> usize
-    requires { (length (order_line (stamp_of at) (from_front courses.now)) ≤ end) × (end ≤ length page.old) }
+    requires { RoomBefore (order_line (stamp_of at) (from_front courses.now)) page.old end }
     ensures { Put (order_line (stamp_of at) (from_front courses.now)) page.old page.new end result }
 {
     let end = put_text(b"\n", page, end);
@@ -28,8 +28,8 @@ fn put_order_line(at: Instant, courses: &[Course], page: &mut [u8], end: usize) 
     put_instant(at, page, end)
 }
 
-// Writes the line of an order onto the front of the page: an instant, and the vessels from the front. The courses
-// stand from rear to front. It answers how many bytes the line has.
+/// Writes the line of an order onto the front of the page: an instant, and the vessels from the front. The courses
+/// stand from rear to front. It answers how many bytes the line has.
 pub fn write_order_line(at: Instant, courses: &[Course], page: &mut [u8]) -> Result<usize, NoRoom>
     ensures { Lined (order_line (stamp_of at) (from_front courses.now)) page.old page.new result }
 {

@@ -1,7 +1,7 @@
 ghost use Rattle.std.specs.Prelude.{◌≡◌};
 ghost use Rattle.lines.specs.Lines.{refusal_number};
 
-// Of a page that a line was to be written on: it has fewer bytes than the line.
+/// A page on which a line was to be written has fewer bytes than the line: refused with 19.
 #[derive(Clone, Copy, PartialEq, Eq, Debug)]
 pub struct NoRoom;
 

@@ -1,6 +1,6 @@
 ghost use Rattle.std.specs.Prelude.{◌≡◌, ◌≤◌, length};
 ghost use Rattle.lines.specs.Lines.{stop_line, Lined};
-ghost use Rattle.lines.specs.Puts.{Put};
+ghost use Rattle.lines.specs.Puts.{RoomBefore, Put};
 
 use crate::digits::digit_count;
 use crate::put::{put_number, put_text};
@@ -15,7 +15,7 @@ fn stop_length(number: u8, place: usize) -> usize
 
 // Puts a stop line before `end`, and answers where it starts.
 fn put_stop_line(number: u8, place: usize, page: &mut [u8], end: usize) -> usize
-    requires { (length (stop_line number place) ≤ end) × (end ≤ length page.old) }
+    requires { RoomBefore (stop_line number place) page.old end }
     ensures { Put (stop_line number place) page.old page.new end result }
 {
     let end = put_text(b"\n", page, end);
@@ -25,8 +25,8 @@ fn put_stop_line(number: u8, place: usize, page: &mut [u8], end: usize) -> usize
     put_text(b"stop ", page, end)
 }
 
-// Writes the line of a stop onto the front of the page: a fault's number and the place of it. It answers how many
-// bytes the line has.
+/// Writes the line of a stop onto the front of the page: a fault's number and the place of it. It answers how many
+/// bytes the line has.
 pub fn write_stop_line(number: u8, place: usize, page: &mut [u8]) -> Result<usize, NoRoom>
     ensures { Lined (stop_line number place) page.old page.new result }
 {

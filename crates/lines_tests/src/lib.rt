@@ -1,6 +1,7 @@
+//! Examples of order lines and stop lines, written and refused.
+
 #![tactic(auto)]
 
-// Examples of lines, written and refused.
 #[cfg(test)]
 mod tests {
     use fairway::course::Course;

@@ -1,10 +1,11 @@
+//! Examples of what the sorted list answers, and of settling it.
+
 #![tactic(auto)]
 
 #[cfg(test)]
 mod tests {
     use fairway::course::Course;
     use fairway::example::three_vessels;
-    use fairway::pair::Pair;
     use fairway::stamp::Stamp;
     use kinetic::numbers::Numbers;
     use kinetic::refusal::Refusal;
@@ -34,6 +35,15 @@ mod tests {
     // The number of the refusal, or 0 where the call was accepted: the number is what the examples compare.
     fn refusal_of(answer: Result<Numbers, Refusal>) -> u8 {
         answer.map_or_else(u8::from, |_| 0)
+    }
+
+    // The numbers of the first four from the rear, 0 where there are fewer.
+    fn numbers_of(list: &SortedList) -> [u16; 4] {
+        let mut numbers = [0; 4];
+        for (number, course) in numbers.iter_mut().zip(list.courses()) {
+            *number = course.number;
+        }
+        numbers
     }
 
     // Three that are all level at second 6 pass one another: the generic loop mends three times.
@@ -68,14 +78,14 @@ mod tests {
         list.enter(vessel(4, 1, 30), second(0))?;
         assert_eq!(rt;
             list.certificate(1),
-            Some(Pair::new(vessel(2, 3, 5), vessel(3, 1, 9)))
+            Some((vessel(2, 3, 5), vessel(3, 1, 9)))
         );
         assert_eq!(rt; refusal_of(list.mend(1, second(1))), 6);
         let named = list.mend(1, second(2))?;
         assert!(rt; named.as_slice() == [0, 1, 2].as_slice());
         assert_eq!(rt;
             list.certificate(1),
-            Some(Pair::new(vessel(3, 1, 9), vessel(2, 3, 5)))
+            Some((vessel(3, 1, 9), vessel(2, 3, 5)))
         );
         assert_eq!(rt; list.count(), 4);
         Ok(())
@@ -99,6 +109,34 @@ mod tests {
         assert!(rt; list.courses() == [vessel(7, 0, 0), vessel(9, 1, 0)].as_slice());
         list.clear();
         assert_eq!(rt; list.foremost(), None);
+        Ok(())
+    }
+
+    // While two certificates are due, changes are made before the mends: the list, its load and the numbers that are
+    // named after each.
+    #[test]
+    fn changes_before_mends(rt: HostRuntime) -> Result<(), Fail> {
+        let six = second(6);
+        let mut list = SortedList::new(rt.alloc())?;
+        for course in three_vessels() {
+            list.enter(course, second(0))?;
+        }
+        let named = list.enter(vessel(7, 2, 6), six)?;
+        assert!(rt; named.as_slice() == [0, 1, 2].as_slice());
+        assert!(rt; numbers_of(&list) == [7, 1, 2, 5]);
+        assert_eq!(rt; list.load(), 4);
+        let named = list.leave(2, six)?;
+        assert!(rt; named.as_slice() == [1, 2].as_slice());
+        assert!(rt; numbers_of(&list) == [7, 1, 5, 0]);
+        assert_eq!(rt; list.load(), 2);
+        let named = list.steer(vessel(1, 0, 18), six)?;
+        assert!(rt; named.as_slice() == [0, 1].as_slice());
+        assert!(rt; numbers_of(&list) == [1, 7, 5, 0]);
+        assert_eq!(rt; list.load(), 1);
+        let named = list.mend(1, six)?;
+        assert!(rt; named.as_slice() == [0, 1, 2].as_slice());
+        assert!(rt; numbers_of(&list) == [1, 5, 7, 0]);
+        assert_eq!(rt; list.load(), 0);
         Ok(())
     }
 

@@ -9,10 +9,11 @@ use Rattle.fairway.specs.declared.course.Course.{Course}
 use Rattle.fairway.specs.declared.stamp.Stamp.{Stamp}
 use Rattle.sorted_list.specs.Rosters.{next_after}
 use Rattle.board.specs.Books.{Book, Event, Log, book, sum_since}
-use Rattle.board.specs.ListQuestions.{position_of, front_neighbour}
+use Rattle.board.specs.ListQuestions.{position_of, neighbour}
 use Rattle.board.specs.Reckoning.{outcome_by_book}
 use Rattle.board.specs.declared.list.Length.{Length}
 use Rattle.board.specs.declared.list.Neighbour.{Neighbour}
+use Rattle.board.specs.declared.list.Side.TheVariants.{Ahead}
 use Rattle.meetings.specs.declared.told.Told.{Told}
 
 -- A line of a meeting: a call or a question, with its answer.
@@ -68,7 +69,7 @@ position_in k (Some c) = Some (position_of (time_of k.clock) c)
 -- which vessel comes next after one with this course, and how far ahead it is
 abbrev pub ahead_in : Book → Option Course → Option Neighbour
 ahead_in k None = None
-ahead_in k (Some c) = front_neighbour (time_of k.clock) c (next_after c.number (ordered k))
+ahead_in k (Some c) = neighbour Ahead (time_of k.clock) c (next_after c.number (ordered k))
 
 -- the same call, with what comes of it by the book, on a board with a queue of capacity 64
 abbrev pub told_by_book : Book → Told → Told

@@ -62,7 +62,7 @@ without_absent n nil z = without_nil n
 without_absent n (node a k r) z =
     without_other n a k r (λ e. omega (arith, one_eq n a (sym e))) ∙ ap (λ x. node a x (without n r)) (without_absent n k (omega arith)) ∙ ap (λ x. node a k x) (without_absent n r (omega arith))
 
--- it is still in order
+-- a forest in order is in order without the ticket n and the tree below it
 module _ {K : Type 0} (before : K → K → Bool) (keys : List (Option K)) (n : ℕ) where
   pub none_sooner_without : (x : Option K) (F : Forest) → NoneSooner before keys x F → NoneSooner before keys x (without n F)
   none_sooner_without x nil h = rw (without_nil n) tt

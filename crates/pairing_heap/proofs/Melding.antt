@@ -9,7 +9,7 @@ use Rattle.pairing_heap.proofs.Columns.{Even}
 use Rattle.event_queue.proofs.Options.{some_none, same_some}
 use Rattle.pairing_heap.proofs.Trees.{same_on, leads_frame, rooted_frame, link_made}
 
--- the same, counted in another way
+-- what was made of trees, with each ticket counted by g in place of f, and n tickets in place of m
 made_as : {K : Type 0} {before : K → K → Bool} {t u : Columns K} {r : Option ℕ} (f g : ℕ → ℕ) (m n : ℕ) → ((j : ℕ) → f j ≡ g j) → m ≡ n → Made before t u r f m → Made before t u r g n
 made_as f g m n e d w = record { tree = w.tree; rooted = w.rooted; count = λ j. w.count j ∙ e j; size = w.size ∙ d; ordered = w.ordered; keys = w.keys; frame = λ j z. w.frame j (e j ∙ z) }
 

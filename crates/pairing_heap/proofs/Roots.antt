@@ -39,7 +39,7 @@ module _ {K : Type 0} (before : K → K → Bool) (cells : List (Node K)) (root 
           let top = tree_root (columns cells) root S.tree i S.rooted e in
           absurd (omega (arith, one_same i, ap (times i) (sym top.1) ∙ S.once i ∙ ap bit h))
 
-  -- and has none before it
+  -- no ticket's key comes before that of the root
   pub root_least : Total before → (i : ℕ) (first : K) → root ≡ Some i → key_of (columns cells) i ≡ Some first → (j : ℕ) (k : K) → key_of (columns cells) j ≡ Some k → before k first ≡ false
   root_least o i first e held j k h =
       let t : Columns K = columns cells in

@@ -92,7 +92,7 @@ module _ {K : Type 0} (t u : Columns K) (len : length u.key ≡ length t.key) wh
       )
   rooted_frame link (node j k (node a b c)) same h = absurd h
 
-  -- the same forest, before whose first ticket q stands now
+  -- a link that leads to a forest in t leads to it in u too, where only what stands before its first ticket changed, to q
   pub rehead : (p q : ℕ) (link : Option ℕ) (F : Forest) → Leads t p link F → ((j : ℕ) → times j F ≤ 1) → ((i : ℕ) → link ≡ Some i → (back_of u i ≡ Some q) × (child_of u i ≡ child_of t i) × (next_of u i ≡ next_of t i)) → ((j : ℕ) → 0 < times j F → (link ≡ Some j → ⊥) → Same t u j) → Leads u q link F
   rehead p q link nil h once new same = h
   rehead p q link (node j k r) h once new same =

@@ -75,6 +75,6 @@ abbrev pub taken_from : {K : Type 0} → Columns K → ℕ → Option ℕ → Co
 taken_from t n None = t
 taken_from t n (Some p) = with_back (bypassed t p n (next_of t n)) (next_of t n) p
 
--- the same, by the back link of n
+-- the tree of the ticket n is taken out of its row: what stands before n is read off its back link
 abbrev pub without_tree : {K : Type 0} → Columns K → ℕ → Columns K
 without_tree t n = taken_from t n (back_of t n)

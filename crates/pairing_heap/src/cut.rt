@@ -17,7 +17,7 @@ fn bypass<K: Key>(cells: &mut [Node<K>], back: usize, ticket: usize, next: Optio
     }
 }
 
-// Takes a ticket with the tree below it out from among its siblings.
+/// Takes a ticket with the tree below it out from among its siblings.
 #[tactic(auto, using(crate::proofs::Columns::cut_columns, crate::proofs::Columns::cut_nothing))]
 pub fn cut<K: Key>(cells: &mut [Node<K>], ticket: usize)
     ensures { columns cells.new ≡ without_tree (columns cells.old) ticket }

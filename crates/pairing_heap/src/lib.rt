@@ -1,3 +1,4 @@
+//! An event queue as a pairing heap, in cells that the caller lends.
 #![tactic(auto)]
 
 mod cut;

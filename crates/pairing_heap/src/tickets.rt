@@ -22,7 +22,7 @@ fn insert<K: Key>(
     ticket: usize,
     key: K,
 ) -> Option<usize>
-    ensures { Inserts K.Key.before cells.old cells.new root result ticket key }
+    ensures { Inserts K.before cells.old cells.new root result ticket key }
 {
     set_key(cells, ticket, Some(key));
     set_child(cells, ticket, None);
@@ -31,7 +31,8 @@ fn insert<K: Key>(
 
 // Takes the key of a root away and melds its children. It answers their root.
 fn remove_root<K: Key>(cells: &mut [Node<K>], ticket: usize) -> Option<usize>
-    ensures { MeldsPairs K.Key.before (with_key (columns cells.old) ticket None) (columns cells.new) (child_of (columns cells.old) ticket) (length cells.old) result }
+    ensures { MeldsPairs K.before (with_key (columns cells.old) ticket None) (columns cells.new)
+        (child_of (columns cells.old) ticket) (length cells.old) result }
 {
     let children = child_of(cells, ticket);
     set_key(cells, ticket, None);
@@ -42,7 +43,7 @@ fn remove_root<K: Key>(cells: &mut [Node<K>], ticket: usize) -> Option<usize>
 // Takes the key of a ticket away, in the heap with this root: its tree is cut out, and its children are
 // melded and then melded back. It answers the root.
 fn remove<K: Key>(cells: &mut [Node<K>], root: Option<usize>, ticket: usize) -> Option<usize>
-    ensures { Removes K.Key.before cells.old cells.new root result ticket }
+    ensures { Removes K.before cells.old cells.new root result ticket }
 {
     if root == Some(ticket) {
         return remove_root(cells, ticket);
@@ -52,36 +53,40 @@ fn remove<K: Key>(cells: &mut [Node<K>], root: Option<usize>, ticket: usize) -> 
     meld(cells, root, children)
 }
 
-// A ticket whose key has none before it, with the key: the root.
+/// A ticket whose key has none before it, with the key: the root.
 pub fn first<K: Key>(cells: &[Node<K>], root: Option<usize>) -> Option<(usize, K)>
-    ensures { (size : ℕ) → Sound K.Key.before (take 64 cells.now) root size → Earliest node_key K.Key.before (take 64 cells.now) result }
+    ensures { (size : ℕ) → Sound K.before (take 64 cells.now) root size
+        → Earliest node_key K.before (take 64 cells.now) result }
 {
     let ticket = root?;
     let key = held(cells, ticket).ok()??;
     Some((ticket, key))
 }
 
-// The same as `insert`, in the first 64 cells.
+/// Gives a key to a ticket that holds none, in the heap with this root in the first 64 cells, and answers
+/// which ticket is the root then.
 pub fn insert_front<K: Key>(
     cells: &mut [Node<K>],
     root: Option<usize>,
     ticket: usize,
     key: K,
 ) -> Option<usize>
-    ensures inserts { Inserts K.Key.before (take 64 cells.old) (take 64 cells.new) root result ticket key }
+    ensures inserts { Inserts K.before
+        (take 64 cells.old) (take 64 cells.new) root result ticket key }
     ensures past { drop 64 cells.new ≡ drop 64 cells.old }
 {
     let capacity = capacity(cells);
     insert(&mut cells[..capacity], root, ticket, key)
 }
 
-// The same as `remove`, in the first 64 cells.
+/// Takes the key of a ticket away, in the heap with this root in the first 64 cells, and answers which ticket
+/// is the root then.
 pub fn remove_front<K: Key>(
     cells: &mut [Node<K>],
     root: Option<usize>,
     ticket: usize,
 ) -> Option<usize>
-    ensures removes { Removes K.Key.before (take 64 cells.old) (take 64 cells.new) root result ticket }
+    ensures removes { Removes K.before (take 64 cells.old) (take 64 cells.new) root result ticket }
     ensures past { drop 64 cells.new ≡ drop 64 cells.old }
 {
     let capacity = capacity(cells);

@@ -1,3 +1,4 @@
+//! Makes many calls on a queue, for measuring.
 #![tactic(auto)]
 
 mod calls;
@@ -6,6 +7,7 @@ use crate::calls::{Choice, run_calls};
 use anyhow::anyhow;
 use binary_heap::cell::Cell;
 use binary_heap::heap::BinaryHeap;
+use event_queue::queue::MOST_TICKETS;
 use pairing_heap::heap::PairingHeap;
 use pairing_heap::node::Node;
 use std::env;
@@ -19,7 +21,7 @@ fn sum_of(chosen: Choice, calls: u32) -> u64 {
                 slot: 0,
                 ticket: 0,
                 slot_key: 0,
-            }; 64];
+            }; MOST_TICKETS];
             let mut queue: BinaryHeap<u32> = BinaryHeap::new(&mut cells);
             run_calls(&mut queue, calls)
         }
@@ -29,7 +31,7 @@ fn sum_of(chosen: Choice, calls: u32) -> u64 {
                 child: None,
                 next: None,
                 back: None,
-            }; 64];
+            }; MOST_TICKETS];
             let mut queue: PairingHeap<u32> = PairingHeap::new(&mut cells);
             run_calls(&mut queue, calls)
         }

@@ -1,6 +1,7 @@
+use crate::tidy::TidyTicket;
 use binary_heap::cell::Cell;
 use binary_heap::heap::BinaryHeap;
-use event_queue::queue::Queue;
+use event_queue::queue::{MOST_TICKETS, Queue};
 use event_queue::refusal::Refusal;
 use single_ticket::SingleTicket;
 use std::process::Abort;
@@ -14,16 +15,19 @@ const WORN: Cell<u32> = Cell {
     slot_key: 5,
 };
 
+// How many cells are lent at most: some more than a queue uses.
+const MOST_CELLS: usize = 70;
+
 // The key that a ticket is given.
 fn key_of(ticket: usize) -> u32 {
-    (ticket % 64) as u32 * 37 % 101
+    (ticket % MOST_TICKETS) as u32 * 37 % 101
 }
 
 // Gives every ticket of an empty queue its key, and tries one ticket more.
 fn fill<Q: Queue<Key = u32>>(rt: &impl Abort, queue: &mut Q, capacity: usize) {
     assert!(rt; queue.capacity() == capacity);
     assert_eq!(rt; queue.take(u32::MAX), None);
-    for ticket in 0..capacity.min(64) {
+    for ticket in 0..capacity.min(MOST_TICKETS) {
         assert_eq!(rt; queue.held(ticket), Ok(None));
         assert_eq!(rt; queue.put(ticket, key_of(ticket)), Ok(()));
         assert_eq!(rt; queue.held(ticket), Ok(Some(key_of(ticket))));
@@ -37,7 +41,7 @@ fn fill<Q: Queue<Key = u32>>(rt: &impl Abort, queue: &mut Q, capacity: usize) {
 
 // Gives every ticket of a full queue other keys, drops it, and gives it its own again.
 fn rekey_all<Q: Queue<Key = u32>>(rt: &impl Abort, queue: &mut Q, capacity: usize) {
-    for ticket in 0..capacity.min(64) {
+    for ticket in 0..capacity.min(MOST_TICKETS) {
         let own = key_of(ticket);
         for key in [0, u32::MAX, own] {
             assert_eq!(rt; queue.rekey(ticket, key), Ok(()));
@@ -53,7 +57,7 @@ fn rekey_all<Q: Queue<Key = u32>>(rt: &impl Abort, queue: &mut Q, capacity: usiz
 // Takes out all tickets of a full queue, the earlier keys first.
 fn empty<Q: Queue<Key = u32>>(rt: &impl Abort, queue: &mut Q, capacity: usize) -> Result<(), Fail> {
     let mut last = 0;
-    for _ in 0..capacity.min(64) {
+    for _ in 0..capacity.min(MOST_TICKETS) {
         let first = queue
             .take(u32::MAX)
             .ok_or_else(|| Fail::new("a ticket is missing"))?;
@@ -71,6 +75,10 @@ fn a_single_ticket(rt: HostRuntime) -> Result<(), Fail> {
     let mut queue: SingleTicket<u32> = SingleTicket::new();
     fill(&rt, &mut queue, 1);
     rekey_all(&rt, &mut queue, 1);
+    empty(&rt, &mut queue, 1)?;
+    let mut queue: TidyTicket<u32> = TidyTicket::new();
+    fill(&rt, &mut queue, 1);
+    rekey_all(&rt, &mut queue, 1);
     empty(&rt, &mut queue, 1)
 }
 
@@ -80,14 +88,14 @@ fn in_first_cells(rt: &impl Abort, cells: &mut [Cell<u32>], count: usize) -> Res
         return Ok(());
     }
     let mut queue = BinaryHeap::new(&mut cells[0..count]);
-    fill(rt, &mut queue, count.min(64));
-    rekey_all(rt, &mut queue, count.min(64));
-    empty(rt, &mut queue, count.min(64))
+    fill(rt, &mut queue, count.min(MOST_TICKETS));
+    rekey_all(rt, &mut queue, count.min(MOST_TICKETS));
+    empty(rt, &mut queue, count.min(MOST_TICKETS))
 }
 
-// The same with each number of the cells, none and all among them.
+// Sets a heap up in each number of the cells, none and all among them.
 fn in_any_cells(rt: &impl Abort, cells: &mut [Cell<u32>]) -> Result<(), Fail> {
-    for count in 0..71 {
+    for count in 0..MOST_CELLS + 1 {
         in_first_cells(rt, cells, count)?;
     }
     Ok(())
@@ -95,9 +103,9 @@ fn in_any_cells(rt: &impl Abort, cells: &mut [Cell<u32>]) -> Result<(), Fail> {
 
 #[test]
 fn every_capacity(rt: HostRuntime) -> Result<(), Fail> {
-    let mut cells = [WORN; 70];
+    let mut cells = [WORN; MOST_CELLS];
     in_any_cells(&rt, &mut cells)?;
-    assert!(rt; cells[64].slot == 99 && cells[69].slot == 99);
+    assert!(rt; cells[MOST_TICKETS].slot == WORN.slot && cells[MOST_CELLS - 1].slot == WORN.slot);
     Ok(())
 }
 

@@ -1,4 +1,4 @@
-// Examples of what the event queues and the call sheet answer.
+//! Examples of what the event queues and the call sheet answer, and of what a caller's cells keep.
 #![tactic(auto)]
 
 #[cfg(test)]
@@ -6,3 +6,4 @@ mod heap;
 mod lent;
 #[cfg(test)]
 mod sheet;
+mod tidy;

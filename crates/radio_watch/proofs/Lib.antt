@@ -3,3 +3,4 @@ mod Numbers
 mod Names
 mod Lines
 mod Journals
+pub mod Watches

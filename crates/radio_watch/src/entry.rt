@@ -4,7 +4,7 @@ ghost use Rattle.radio_watch.specs.Report.{unreadable_text};
 use call_sheet::call::{Call, Event};
 use std::fmt;
 
-// A line of a script that cannot be read, by its number from 1.
+/// A line of a script that cannot be read, by its number from 1.
 #[derive(Clone, Copy, PartialEq, Eq, Debug)]
 pub struct Unreadable {
     pub number: usize,
@@ -18,8 +18,8 @@ impl fmt::Display for Unreadable {
     }
 }
 
-// What a script asks for, line by line: a call, or a line that cannot be read.
+/// What a script asks for, line by line: a call, or a line that cannot be read.
 pub type Item = Result<Call, Unreadable>;
 
-// What came of an item of a script.
+/// What came of an item of a script.
 pub type Entry = Result<Event, Unreadable>;

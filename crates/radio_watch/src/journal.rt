@@ -1,36 +1,46 @@
-ghost use Rattle.std.specs.Prelude.{◌≡◌, List, [], ◌∷◌, IfOk};
+ghost use Rattle.std.specs.Prelude.{◌≡◌, List, [], ◌∷◌, min, map, length, take, drop};
 ghost use Rattle.call_sheet.specs.declared.call.Event.{Event};
 ghost use Rattle.call_sheet.specs.History.{LedTo};
-ghost use Rattle.radio_watch.specs.Journal.{item_of, log_from, Kept};
+ghost use Rattle.radio_watch.specs.Journal.{item_of, log_from};
 
 use crate::entry::{Entry, Item};
 use call_sheet::sheet::CallSheet;
 use event_queue::queue::Queue;
-use std::alloc::{AllocError, Global};
 
-// Does what an item asks for, and answers what came of it. That the queue is sound is a premise, as the sheet's.
+// Does what an item asks for, and answers what came of it.
 fn answer<Q: Queue<Key = u32>>(sheet: &mut CallSheet<Q>, item: Item) -> Entry
     ensures item { item_of result ≡ item }
-    ensures history { (log : List Event) → LedTo Q.Queue.means log sheet.old.queue → LedTo Q.Queue.means (log_from log (result ∷ [])) sheet.new.queue }
-    ensures capacity { Q.Queue.means.sound sheet.old.queue → Q.Queue.means.capacity sheet.new.queue ≡ Q.Queue.means.capacity sheet.old.queue }
+    ensures history { (log : List Event) → LedTo Q.means log sheet.old.queue
+        → LedTo Q.means (log_from log (result ∷ [])) sheet.new.queue }
+    ensures sound { Q.means.sound sheet.old.queue → Q.means.sound sheet.new.queue }
+    ensures capacity { Q.means.sound sheet.old.queue
+        → Q.means.capacity sheet.new.queue ≡ Q.means.capacity sheet.old.queue }
+    ensures keeps { Q.means.keeps sheet.old.queue sheet.new.queue }
 {
     Ok(sheet.perform(item?))
 }
 
-// Does the items of a script in turn, on a sheet over the queue that is empty at first, and answers what
-// came of each. Where memory is wanting, it fails before any is done.
-pub fn keep<Q: Queue<Key = u32> + Drop>(
-    heap: Global,
-    queue: Q,
+/// Does the items of a script in turn, as many as the journal has lines, writes what came of each into its line, and
+/// answers how many it did. The lines behind them stay. It never refuses.
+pub fn keep<Q: Queue<Key = u32>>(
+    sheet: &mut CallSheet<Q>,
     items: &[Item],
-) -> Result<Vec<Entry>, AllocError>
-    ensures { Q.Queue.means.sound queue → IfOk result (λ journal. Kept (Q.Queue.means.capacity queue) items.now journal.items) }
+    journal: &mut [Entry],
+) -> usize
+    ensures count { result ≡ min (length items.now) (length journal.old) }
+    ensures items { map item_of (take result journal.new) ≡ take result items.now }
+    ensures past { drop result journal.new ≡ drop result journal.old }
+    ensures history { (log : List Event) → LedTo Q.means log sheet.old.queue
+        → LedTo Q.means (log_from log (take result journal.new)) sheet.new.queue }
+    ensures sound { Q.means.sound sheet.old.queue → Q.means.sound sheet.new.queue }
+    ensures capacity { Q.means.sound sheet.old.queue
+        → Q.means.capacity sheet.new.queue ≡ Q.means.capacity sheet.old.queue }
+    ensures keeps { Q.means.keeps sheet.old.queue sheet.new.queue }
 {
-    let mut journal = Vec::with_capacity(heap, items.len())?;
-    let mut sheet = CallSheet::new(queue);
-    for item in items {
-        let entry = answer(&mut sheet, *item);
-        journal.push_reserved(entry);
+    let count = items.len().min(journal.len());
+    let asked = &items[..count];
+    for (index, item) in asked.iter().enumerate() {
+        journal[index] = answer(sheet, *item);
     }
-    Ok(journal)
+    count
 }

@@ -6,7 +6,8 @@ use std::alloc::{AllocError, Global};
 
 // Adds an entry's text to a report, on a line of its own.
 fn add_entry(report: &mut String, entry: &Entry) -> Result<(), AllocError>
-    ensures { OnOk result (string_bytes report.new ≡ string_bytes report.old ++ (entry_text entry.now ++ 10 ∷ [])) }
+    ensures { OnOk result
+        (string_bytes report.new ≡ string_bytes report.old ++ (entry_text entry.now ++ 10 ∷ [])) }
 {
     match entry {
         Ok(event) => writeln!(report, "{event}"),
@@ -14,7 +15,7 @@ fn add_entry(report: &mut String, entry: &Entry) -> Result<(), AllocError>
     }
 }
 
-// The report on the entries: the text of each, on a line of its own.
+/// The report on the entries: the text of each, on a line of its own.
 pub fn report(heap: Global, entries: &[Entry]) -> Result<String, AllocError>
     ensures { IfOk result (λ t. string_bytes t ≡ report_text entries.now) }
 {

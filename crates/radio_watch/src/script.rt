@@ -5,7 +5,7 @@ use crate::entry::{Item, Unreadable};
 use call_sheet::call::Call;
 use std::alloc::{AllocError, Global};
 
-// Of a line of a script: it asks for no call, and is neither blank nor a comment.
+/// Of a line of a script: it asks for no call, and is neither blank nor a comment.
 #[derive(Clone, Copy, PartialEq, Eq, Debug)]
 pub struct NotACommand;
 
@@ -60,8 +60,8 @@ fn three_words(name: &[u8], line: &[u8], second: &[u8]) -> Result<Call, NotAComm
     }
 }
 
-// The call that a line of a script asks for; none where the line is blank or a comment. These two answers of
-// none stand alone: there is no none or error to pass on.
+/// The call that a line of a script asks for; none where the line is blank or a comment. These two answers of
+/// none stand alone: there is no none or error to pass on.
 pub fn read_line(line: &[u8]) -> Result<Option<Call>, NotACommand>
     ensures { result ≡ reading line.now }
 {
@@ -79,7 +79,7 @@ pub fn read_line(line: &[u8]) -> Result<Option<Call>, NotACommand>
     }
 }
 
-// What a script asks for, line by line. A match has a line for each thing that a line may say.
+/// What a script asks for, line by line. A match has a line for each thing that a line may say.
 pub fn read_script(heap: Global, script: &[u8]) -> Result<Vec<Item>, AllocError>
     ensures { IfOk result (λ v. v.items ≡ items script.now) }
 {

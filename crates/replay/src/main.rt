@@ -1,9 +1,12 @@
+//! Replays a recorded trace on standard input, and writes the page and, after a fault, a stop line.
+
 #![tactic(auto)]
 
 use binary_heap::cell::Cell;
 use binary_heap::heap::BinaryHeap;
 use board::board::Board;
 use board::call::Row;
+use board::tickets::Ticket;
 use fairway::stamp::Stamp;
 use lines::stop_lines::write_stop_line;
 use sorted_list::list::SortedList;
@@ -48,7 +51,7 @@ fn replay_onto(
             denominator_less_one: 0,
         },
     }; 64];
-    let queue: BinaryHeap<Stamp> = BinaryHeap::new(&mut cells);
+    let queue: BinaryHeap<Ticket> = BinaryHeap::new(&mut cells);
     let mut board = Board::new(SortedList::new(rt.alloc())?, queue);
     let mut rows = [BLANK; ROWS];
     Ok(replay(trace, &mut board, &mut rows, page))

@@ -1,9 +1,9 @@
 use crate::answers::{Answer, BLANK, told};
 use binary_heap::heap::BinaryHeap;
+use board::tickets::Ticket;
 use board_fixtures::boards::{CELLS, NODES, blank_rows, list};
 use board_fixtures::told::{State, state_of};
 use event_queue::queue::Queue;
-use fairway::stamp::Stamp;
 use pairing_heap::heap::PairingHeap;
 use std::alloc::Global;
 use std::process::Abort;
@@ -51,7 +51,7 @@ fn trace_of(alloc: Global, example: &Example<'_>) -> Result<Vec<u8>, Fail> {
 }
 
 // Replays an example on a board over a queue. What is behind the written bytes of the page is as it was.
-fn check_on<Q: Queue<Key = Stamp> + Drop>(
+fn check_on<Q: Queue<Key = Ticket> + Drop>(
     rt: &impl Abort,
     alloc: Global,
     queue: Q,

@@ -2,13 +2,13 @@ use crate::answers::{BLANK, told};
 use binary_heap::heap::BinaryHeap;
 use board::board::Board;
 use board::call::Row;
+use board::tickets::Ticket;
 use board_fixtures::boards::{BLANK_ROW, CELLS, NODES, list};
 use board_fixtures::calls::ShortCall::{Advance, Enter};
 use board_fixtures::calls::{Step, first_amiss};
 use board_fixtures::told::{State, state_of};
 use event_queue::queue::Queue;
 use fairway::course::Course;
-use fairway::stamp::Stamp;
 use pairing_heap::heap::PairingHeap;
 use sorted_list::list::SortedList;
 use std::process::Abort;
@@ -50,7 +50,7 @@ const PASSED: [Step; 3] = [
 ];
 
 // No header that is read so far changes the board, the rows or the page.
-fn check_header<Q: Queue<Key = Stamp> + Drop>(
+fn check_header<Q: Queue<Key = Ticket> + Drop>(
     rt: &impl Abort,
     board: &mut Board<SortedList, Q>,
     rows: &mut [Row; 3],
@@ -69,7 +69,7 @@ fn check_header<Q: Queue<Key = Stamp> + Drop>(
 }
 
 // A sound header opens the board, and changes no row.
-fn check_sound<Q: Queue<Key = Stamp> + Drop>(
+fn check_sound<Q: Queue<Key = Ticket> + Drop>(
     rt: &impl Abort,
     board: &mut Board<SortedList, Q>,
     rows: &mut [Row; 3],
@@ -88,7 +88,7 @@ fn check_sound<Q: Queue<Key = Stamp> + Drop>(
 }
 
 // Two vessels are aboard, and one has passed.
-fn check_headers<Q: Queue<Key = Stamp> + Drop>(rt: &impl Abort, mut board: Board<SortedList, Q>) {
+fn check_headers<Q: Queue<Key = Ticket> + Drop>(rt: &impl Abort, mut board: Board<SortedList, Q>) {
     let mut rows = [BLANK_ROW; 3];
     assert_eq!(rt; first_amiss(&mut board, &PASSED, &mut rows), None);
     for (trace, number) in &HEADERS {

@@ -1,6 +1,7 @@
+//! Examples of replays, run over both heaps, and of the worked meetings, performed on a board.
+
 #![tactic(auto)]
 
-// Examples of replays, run over both heaps, and the worked meetings, performed on a board.
 #[cfg(test)]
 mod answers;
 #[cfg(test)]

@@ -1,6 +1,7 @@
 use crate::answers::{BLANK, told};
 use binary_heap::heap::BinaryHeap;
 use board::call::Row;
+use board::tickets::Ticket;
 use board_fixtures::boards::{BLANK_ROW, CELLS, NODES, list};
 use event_queue::queue::Queue;
 use fairway::stamp::Stamp;
@@ -16,7 +17,7 @@ const TEXT: &str =
     "enter 1 0 3\nenter 2 6 2\nenter 5 12 1\nenter 8 36 0\nadvance 6 0/1\nadvance 12 0/1\norder\nend\n";
 
 // Each advance writes its rows from the first on, and leaves the others.
-fn check_rows<Q: Queue<Key = Stamp> + Drop>(
+fn check_rows<Q: Queue<Key = Ticket> + Drop>(
     rt: &impl Abort,
     alloc: Global,
     queue: Q,

@@ -1,8 +1,8 @@
 use binary_heap::heap::BinaryHeap;
 use board::board::Board;
+use board::tickets::Ticket;
 use board_fixtures::boards::{CELLS, NODES, blank_rows, list};
 use event_queue::queue::Queue;
-use fairway::stamp::Stamp;
 use meetings::table::meetings;
 use meetings::told::Told;
 use pairing_heap::heap::PairingHeap;
@@ -12,7 +12,7 @@ use std::process::Abort;
 use std::test::Fail;
 
 // Performs the calls of a meeting, each with as many rows as it is lent.
-fn check_meeting<Q: Queue<Key = Stamp> + Drop>(
+fn check_meeting<Q: Queue<Key = Ticket> + Drop>(
     rt: &impl Abort,
     alloc: Global,
     board: &mut Board<SortedList, Q>,
@@ -27,7 +27,7 @@ fn check_meeting<Q: Queue<Key = Stamp> + Drop>(
 }
 
 // Performs the ten meetings on one board.
-fn check_meetings<Q: Queue<Key = Stamp> + Drop>(
+fn check_meetings<Q: Queue<Key = Ticket> + Drop>(
     rt: &impl Abort,
     alloc: Global,
     mut board: Board<SortedList, Q>,

@@ -1,21 +1,22 @@
+//! The smallest event queue that holds anything, as an example for whoever brings a queue.
 #![tactic(auto)]
 
-ghost use Rattle.std.specs.Prelude.{◌≡◌};
-ghost use Rattle.event_queue.specs.Queues.{Empty};
-ghost use Rattle.single_ticket.specs.Meanings.{single_meaning};
+ghost use Rattle.std.specs.Prelude.{◌≡◌, None, refl, IfOk, IfNone};
+ghost use Rattle.event_queue.specs.Queues.{Empty, Dropped, Took};
+ghost use Rattle.single_ticket.specs.Meanings.{single_meaning, none_held};
 
 use event_queue::key::Key;
 use event_queue::queue::Queue;
 use event_queue::refusal::Refusal;
 
-// The smallest event queue that holds anything: one ticket, number 0.
+/// The smallest event queue that holds anything: one ticket, number 0.
 #[derive(Drop)]
 pub struct SingleTicket<K: Key> {
     key: Option<K>,
 }
 
 impl<K: Key> SingleTicket<K> {
-    // A queue whose one ticket holds no key.
+    /// A queue whose one ticket holds no key.
     pub fn new() -> SingleTicket<K>
         ensures { Empty single_meaning result }
     {
@@ -28,15 +29,15 @@ impl<K: Key> Queue for SingleTicket<K> {
 
     ghost means = { single_meaning };
 
-    fn capacity(&self) -> usize {
+    fn capacity(&mut self) -> usize {
         1
     }
 
-    fn size(&self) -> usize {
+    fn size(&mut self) -> usize {
         usize::from(self.key.is_some())
     }
 
-    fn held(&self, ticket: usize) -> Result<Option<K>, Refusal> {
+    fn held(&mut self, ticket: usize) -> Result<Option<K>, Refusal> {
         if ticket > 0 {
             return Err(Refusal::NoSuchTicket);
         }
@@ -51,12 +52,21 @@ impl<K: Key> Queue for SingleTicket<K> {
         Ok(())
     }
 
-    fn drop(&mut self, ticket: usize) -> Result<Option<K>, Refusal> {
+    // Beyond the trait, a `drop` or a `take` that answers none leaves the queue exactly as it was.
+    fn drop(&mut self, ticket: usize) -> Result<Option<K>, Refusal>
+        ensures after { Dropped single_meaning self.old self.new ticket result }
+        ensures keeps { single_meaning.keeps self.old self.new }
+        ensures none { IfOk result (λ key. IfNone key (self.new ≡ self.old)) }
+    {
         self.held(ticket)?;
         Ok(self.key.take())
     }
 
-    fn take(&mut self, limit: K) -> Option<(usize, K)> {
+    fn take(&mut self, limit: K) -> Option<(usize, K)>
+        ensures after { Took single_meaning K.before self.old self.new limit result }
+        ensures keeps { single_meaning.keeps self.old self.new }
+        ensures none { IfNone result (self.new ≡ self.old) }
+    {
         let key = self.key?;
         if limit.is_before(&key) {
             return None;
@@ -64,4 +74,6 @@ impl<K: Key> Queue for SingleTicket<K> {
         self.key = None;
         Some((0, key))
     }
+
+    ghost inhabited = { (record { key = None }, none_held) };
 }

@@ -15,23 +15,23 @@ use Rattle.fairway.proofs.Rosters.{absent_without, of_absent, roster_without}
 use Rattle.kinetic.specs.Limits.{due}
 use Rattle.kinetic.specs.Numbers.{among}
 use Rattle.kinetic.proofs.Tests.{due_pair, tested}
+use Rattle.sorted_list.specs.Places.{named_from}
 use Rattle.sorted_list.specs.Rosters.{well}
 use Rattle.event_queue.proofs.Options.{some_same}
 use Rattle.sorted_list.specs.RostersLemmas.{Fits, well_apart, cert_past, cert_holds}
 use Rattle.sorted_list.specs.Laws.{Each, rests_sorted, sorted_rests}
 use Rattle.sorted_list.proofs.Changes.{well_put, roster_put, roster_new, length_put, sorted_without, exchange, roster_exchange, same_certs}
-use Rattle.fairway.specs.Lists.{pair_at}
-use Rattle.fairway.specs.Orders.{pair}
-use Rattle.fairway.specs.declared.pair.Pair.{Pair}
+use Rattle.sorted_list.specs.Rosters.{certificate_at}
+use Rattle.sorted_list.proofs.Naming.{unnamed}
 
 -- those from one before a place on, below an end, are named: the others stay
-pub between_named : (xs ys : List Course) (named : List ℕ) (p end : ℕ) → ((k : ℕ) → k < end → among k named ≡ false → k + 1 < p) →
-    ((k : ℕ) → k + 1 < p → pair_at ys k ≡ pair_at xs k) → ((k : ℕ) → end ≤ k → pair_at ys k ≡ pair_at xs k) →
-    (i : ℕ) → among i named ≡ false → pair_at ys i ≡ pair_at xs i
-between_named xs ys named p end n s u i e = ⊎_elim (λ (a : i < end). s i (n i a e)) (λ (a : end ≤ i). u i a) (cases_lt i end)
+pub between_named : (xs ys : List Course) (named : List ℕ) (p end : ℕ) → named ≡ named_from p end →
+    ((k : ℕ) → k + 1 < p → certificate_at ys k ≡ certificate_at xs k) → ((k : ℕ) → end ≤ k → certificate_at ys k ≡ certificate_at xs k) →
+    (i : ℕ) → among i named ≡ false → certificate_at ys i ≡ certificate_at xs i
+between_named xs ys named p end n s u i m = ⊎_elim (λ (a : i < end). s i (unnamed p end i named n m a)) (λ (a : end ≤ i). u i a) (cases_lt i end)
 
 -- past an end neither list has any
-pub past_end : (xs ys : List Course) (end : ℕ) → length xs ≤ end + 1 → length ys ≤ end + 1 → (k : ℕ) → end ≤ k → pair_at ys k ≡ pair_at xs k
+pub past_end : (xs ys : List Course) (end : ℕ) → length xs ≤ end + 1 → length ys ≤ end + 1 → (k : ℕ) → end ≤ k → certificate_at ys k ≡ certificate_at xs k
 past_end xs ys end h l k a = cert_past ys k (omega arith) ∙ sym (cert_past xs k (omega arith))
 
 module _ (t : Time) where
@@ -63,36 +63,36 @@ roster_out n xs ys w e = (ap (λ l. course_of l n) e ∙ absent_without n xs (we
 pub record DueAt (t : Time) (xs : List Course) (i : ℕ) : Type 0 where
   pub rear : Course
   pub front : Course
-  pub is : pair_at xs i ≡ Some (pair rear front)
+  pub is : certificate_at xs i ≡ Some (rear, front)
   pub due : Due t rear front
   pub within : suc i < length xs
 
-pub told_due : (t : Time) (xs : List Course) (i : ℕ) (o : Option Pair) → true ≡ due t o → o ≡ pair_at xs i → DueAt t xs i
+pub told_due : (t : Time) (xs : List Course) (i : ℕ) (o : Option (Course × Course)) → true ≡ due t o → o ≡ certificate_at xs i → DueAt t xs i
 told_due t xs i o e q =
-    let p = due_pair t (pair_at xs i) (tested t o (pair_at xs i) true e q) in
+    let p = due_pair t (certificate_at xs i) (tested t o (certificate_at xs i) true e q) in
     record { rear = p.0; front = p.1; is = p.2; due = p.3; within = (cert_holds xs i p.0 p.1 p.2).0 }
 
-pub pair_faster : (t : Time) (xs : List Course) (i : ℕ) → DueAt t xs i → (r f : Course) → pair_at xs i ≡ Some (pair r f) → faster r f ≡ true
+pub pair_faster : (t : Time) (xs : List Course) (i : ℕ) → DueAt t xs i → (r f : Course) → certificate_at xs i ≡ Some (r, f) → faster r f ≡ true
 pair_faster t xs i d r f e =
     let q = some_same (sym d.is ∙ e) in
-    subst (λ z. faster z.rear z.front ≡ true) q (due_faster t d.rear d.front d.due)
+    subst (λ z. faster z.0 z.1 ≡ true) q (due_faster t d.rear d.front d.due)
 
 -- the number before it, its own and the next are named
-pub away_named : (xs ys : List Course) (named : List ℕ) (i : ℕ) → suc i < length xs → ys ≡ swap xs i (i + 1) → ((k : ℕ) → k < i + 2 → among k named ≡ false → k + 1 < i) →
-    (k : ℕ) → among k named ≡ false → pair_at ys k ≡ pair_at xs k
+pub away_named : (xs ys : List Course) (named : List ℕ) (i : ℕ) → suc i < length xs → ys ≡ swap xs i (i + 1) → named ≡ named_from i (i + 2) →
+    (k : ℕ) → among k named ≡ false → certificate_at ys k ≡ certificate_at xs k
 away_named xs ys named i h e n k m =
-    let far : k < i + 2 → k + 1 < i = λ l. n k l m in
-    ap (λ l. pair_at l k) e ∙ same_certs xs i k h (λ q. omega (arith, far (omega arith))) (λ q. omega (arith, far (omega arith))) (λ q. omega (arith, far (omega arith)))
+    let far : k < i + 2 → k + 1 < i = unnamed i (i + 2) k named n m in
+    ap (λ l. certificate_at l k) e ∙ same_certs xs i k h (λ q. omega (arith, far (omega arith))) (λ q. omega (arith, far (omega arith))) (λ q. omega (arith, far (omega arith)))
 
 -- what becomes of the list
 pub record Passed (t : Time) (xs ys : List Course) (i : ℕ) : Type 0 where
   pub roster : (n : ℕ) → course_of ys n ≡ course_of xs n
   pub stands : Stands t xs → Stands t ys × (load ys < load xs)
-  pub by : (r f : Course) → pair_at xs i ≡ Some (pair r f) → Exchange r f xs ys
+  pub by : (r f : Course) → certificate_at xs i ≡ Some (r, f) → Exchange r f xs ys
 
 pub passed_is : (t : Time) (xs ys : List Course) (i : ℕ) → well xs ≡ true → DueAt t xs i → ys ≡ swap xs i (i + 1) → Passed t xs ys i
 passed_is t xs ys i w d e =
-    let by : (r f : Course) → pair_at xs i ≡ Some (pair r f) → Exchange r f xs ys = λ r f q. subst (Exchange r f xs) (sym e) (exchange xs i r f d.within q) in
+    let by : (r f : Course) → certificate_at xs i ≡ Some (r, f) → Exchange r f xs ys = λ r f q. subst (Exchange r f xs) (sym e) (exchange xs i r f d.within q) in
     let X = by d.rear d.front d.is in
     record {
       roster = roster_exchange X (well_apart xs w);

@@ -1,49 +1,45 @@
 -- Lists through an exchange, an insert and a remove, and the searches for a place.
 use Rattle.std.proofs.Common.{◌≡◌, ℕ, zero, suc, ◌+◌, ◌<◌, ◌≤◌, Bool, true, false, not, cond, eqb, ltb, ◌≢◌, List, [], ◌∷◌, length, get_or, set, Some, None, Option, is_some, sym, refl, ap, ◌∙◌, subst, inl, ⊎_elim, add-one, arith, length-set, get_or-set_other}
-use Rattle.std.specs.List.{remove, insert, swap, position, position_or_len, AllByRecursion}
+use Rattle.std.specs.List.{remove, insert, swap, position_or_len}
 use Rattle.std.specs.Option.{unwrap_or}
 use Rattle.std.proofs.lemmas.List.Edits.{swap_is, length-insert, length-remove, get_or-insert_below, get_or-insert_above, get_or-remove_below, get_or-remove_above}
 use Rattle.std.proofs.lemmas.List.Sums.{prefix_len-le-length, position_or_len_is}
 use Rattle.std.proofs.Math.Numerals.{one-add}
-use Rattle.std.proofs.lemmas.Bool.{false≢true, eqb-true, eq-eqb, ne_eqb, ltb-true, ltb-false, lt-ltb, cond-true, cond-false, cond_both, cases_lt}
+use Rattle.std.proofs.lemmas.Bool.{false≢true, eqb-true, eq-eqb, ne_eqb, ltb-true, ltb-false, lt-ltb, le-ltb, cond-true, cond-false, cond_both, cases_lt}
 use Rattle.fairway.specs.declared.course.Course.{Course}
 use Rattle.fairway.specs.Times.{Time}
 use Rattle.fairway.specs.Courses.{faster}
 use Rattle.fairway.specs.Behind.{behind}
 use Rattle.fairway.specs.Orders.{Apart, Sorted, put, load, Exchange, here, there}
 use Rattle.fairway.proofs.Lists.{nobody}
-use Rattle.fairway.proofs.Sorting.{all_put, holds_put}
-use Rattle.fairway.proofs.Standings.{all_exchange}
+use Rattle.fairway.proofs.Sorting.{holds_put}
+use Rattle.fairway.proofs.Pairwise.{all_exchange, all_put, all_removed, pairwise_without}
 use Rattle.fairway.proofs.Advance.{loses_one}
 use Rattle.fairway.specs.Rosters.{course_of, without}
-use Rattle.fairway.proofs.Rosters.{all_without, found, of_absent}
-use Rattle.sorted_list.specs.Rosters.{well, PlaceOf, NoneBefore}
+use Rattle.fairway.proofs.Rosters.{found, of_absent, apart_exchange, apart_put, apart_removed}
+use Rattle.sorted_list.specs.Places.{place_in, NoneBefore, entry_place}
+use Rattle.sorted_list.specs.Rosters.{well}
 use Rattle.event_queue.proofs.Options.{none_some, some_same}
 use Rattle.sorted_list.specs.RostersLemmas.{Fits, cert_is, cert_past, well_ranged, well_apart, to_well}
-use Rattle.fairway.specs.Lists.{pair_at}
-use Rattle.fairway.specs.Orders.{pair}
+use Rattle.sorted_list.specs.Rosters.{certificate_at}
 
 -- ---- an exchange
-sets : (xs : List Course) (i : ℕ) (r f : Course) → pair_at xs i ≡ Some (pair r f) → Exchange r f xs (set (set xs i f) (suc i) r)
+sets : (xs : List Course) (i : ℕ) (r f : Course) → certificate_at xs i ≡ Some (r, f) → Exchange r f xs (set (set xs i f) (suc i) r)
 sets [] i r f e = absurd (none_some e)
 sets (x ∷ []) i r f e = absurd (none_some e)
 sets (x ∷ y ∷ ys) zero r f e =
     let q = some_same e in
-    subst (λ z. Exchange r f (z ∷ y ∷ ys) (f ∷ r ∷ ys)) (sym (ap (λ z. z.rear) q))
-    (subst (λ z. Exchange r f (r ∷ z ∷ ys) (f ∷ r ∷ ys)) (sym (ap (λ z. z.front) q)) here)
+    subst (λ z. Exchange r f (z ∷ y ∷ ys) (f ∷ r ∷ ys)) (sym (ap (λ z. z.0) q))
+    (subst (λ z. Exchange r f (r ∷ z ∷ ys) (f ∷ r ∷ ys)) (sym (ap (λ z. z.1) q)) here)
 sets (x ∷ y ∷ ys) (suc i) r f e = there (sets (y ∷ ys) i r f e)
 
 exchanged_sets : (xs : List Course) (i : ℕ) (d : Course) → suc i < length xs → swap xs i (i + 1) ≡ set (set xs i (get_or xs (suc i) d)) (suc i) (get_or xs i d)
 exchanged_sets xs i d h = rw add-one (sym (swap_is xs i (suc i) d (omega arith) h))
 
-pub exchange : (xs : List Course) (i : ℕ) (r f : Course) → suc i < length xs → pair_at xs i ≡ Some (pair r f) → Exchange r f xs (swap xs i (i + 1))
+pub exchange : (xs : List Course) (i : ℕ) (r f : Course) → suc i < length xs → certificate_at xs i ≡ Some (r, f) → Exchange r f xs (swap xs i (i + 1))
 exchange xs i r f h e =
     let q = some_same (sym (cert_is xs i r h) ∙ e) in
-    subst (Exchange r f xs) (sym (exchanged_sets xs i r h ∙ ap (λ z. set (set xs i z) (suc i) (get_or xs i r)) (ap (λ z. z.front) q) ∙ ap (λ z. set (set xs i f) (suc i) z) (ap (λ z. z.rear) q))) (sets xs i r f e)
-
-apart_exchange : {r f : Course} {xs ys : List Course} → Exchange r f xs ys → Apart xs → Apart ys
-apart_exchange here a = ((λ q. a.0.0 (sym q), a.1.0), (a.0.1, a.1.1))
-apart_exchange (there {x} e) a = (all_exchange (λ y. x.number ≢ y.number) e a.0, apart_exchange e a.1)
+    subst (Exchange r f xs) (sym (exchanged_sets xs i r h ∙ ap (λ z. set (set xs i z) (suc i) (get_or xs i r)) (ap (λ z. z.1) q) ∙ ap (λ z. set (set xs i f) (suc i) z) (ap (λ z. z.0) q))) (sets xs i r f e)
 
 two_ways : {A : Type 0} (p q : Bool) (x y z : A) → (p ≡ true → q ≡ true → ⊥) → cond p x (cond q y z) ≡ cond q y (cond p x z)
 two_ways true true x y z h = absurd (h refl refl)
@@ -61,7 +57,7 @@ length_exchange here = refl
 length_exchange (there e) = ap suc (length_exchange e)
 
 -- certificates away from the two stay
-same_sets : (xs : List Course) (i k : ℕ) (a b : Course) → k ≢ i → k ≢ suc i → suc k ≢ i → pair_at (set (set xs i a) (suc i) b) k ≡ pair_at xs k
+same_sets : (xs : List Course) (i k : ℕ) (a b : Course) → k ≢ i → k ≢ suc i → suc k ≢ i → certificate_at (set (set xs i a) (suc i) b) k ≡ certificate_at xs k
 same_sets xs i k a b p q r =
     let ys = set (set xs i a) (suc i) b in
     let l : length ys ≡ length xs = length-set (set xs i a) (suc i) b ∙ length-set xs i a in
@@ -69,16 +65,16 @@ same_sets xs i k a b p q r =
     let u : get_or ys k a ≡ get_or xs k a = get_or-set_other (set xs i a) (suc i) k b a q ∙ get_or-set_other xs i k a a p in
     let v : get_or ys (suc k) a ≡ get_or xs (suc k) a = get_or-set_other (set xs i a) (suc i) (suc k) b a s ∙ get_or-set_other xs i (suc k) a a r in
     ⊎_elim
-    (λ (h : suc k < length xs). cert_is ys k a (omega arith) ∙ ap (λ z. Some (pair z (get_or ys (suc k) a))) u ∙ ap (λ z. Some (pair (get_or xs k a) z)) v ∙ sym (cert_is xs k a h))
+    (λ (h : suc k < length xs). cert_is ys k a (omega arith) ∙ ap (λ z. Some (z, get_or ys (suc k) a)) u ∙ ap (λ z. Some (get_or xs k a, z)) v ∙ sym (cert_is xs k a h))
     (λ (h : length xs ≤ suc k). cert_past ys k (omega arith) ∙ sym (cert_past xs k h))
     (cases_lt (suc k) (length xs))
 
-pub same_certs : (xs : List Course) (i k : ℕ) → suc i < length xs → (k ≡ i → ⊥) → (k ≡ i + 1 → ⊥) → (k + 1 ≡ i → ⊥) → pair_at (swap xs i (i + 1)) k ≡ pair_at xs k
+pub same_certs : (xs : List Course) (i k : ℕ) → suc i < length xs → (k ≡ i → ⊥) → (k ≡ i + 1 → ⊥) → (k + 1 ≡ i → ⊥) → certificate_at (swap xs i (i + 1)) k ≡ certificate_at xs k
 same_certs [] i k h p q r = absurd (omega arith)
 same_certs (x ∷ xs) i k h p q r =
-    ap (λ z. pair_at z k) (exchanged_sets (x ∷ xs) i x h) ∙ same_sets (x ∷ xs) i k (get_or (x ∷ xs) (suc i) x) (get_or (x ∷ xs) i x) p (λ e. q (omega arith)) (λ e. r (omega arith))
+    ap (λ z. certificate_at z k) (exchanged_sets (x ∷ xs) i x h) ∙ same_sets (x ∷ xs) i k (get_or (x ∷ xs) (suc i) x) (get_or (x ∷ xs) i x) p (λ e. q (omega arith)) (λ e. r (omega arith))
 
-pub passed : (xs ys : List Course) (i : ℕ) → suc i < length xs → ys ≡ swap xs i (i + 1) → ((r f : Course) → pair_at xs i ≡ Some (pair r f) → faster r f ≡ true) → well xs ≡ true → (well ys ≡ true) × (load xs ≡ load ys + 1)
+pub passed : (xs ys : List Course) (i : ℕ) → suc i < length xs → ys ≡ swap xs i (i + 1) → ((r f : Course) → certificate_at xs i ≡ Some (r, f) → faster r f ≡ true) → well xs ≡ true → (well ys ≡ true) × (load xs ≡ load ys + 1)
 passed [] ys i h e F w = absurd (omega arith)
 passed (x ∷ xs) ys i h e F w =
     let r = get_or (x ∷ xs) i x in
@@ -88,14 +84,6 @@ passed (x ∷ xs) ys i h e F w =
     (to_well ys (all_exchange Fits X (well_ranged (x ∷ xs) w)) (apart_exchange X (well_apart (x ∷ xs) w)), omega (arith, (loses_one r f (x ∷ xs) ys (F r f c) X).1))
 
 -- ---- one put in
-apart_put : (t : Time) (x : Course) (xs : List Course) → AllByRecursion (λ y. x.number ≢ y.number) xs → Apart xs → Apart (put t x xs)
-apart_put t x [] n a = (tt, tt)
-apart_put t x (y ∷ ys) n a =
-    let ih = apart_put t x ys n.1 a.1 in
-    cond_both (behind t x y) (x ∷ y ∷ ys) (y ∷ put t x ys) Apart
-    (λ _. (n, a))
-    (λ _. (all_put (λ z. y.number ≢ z.number) t x ys (λ q. n.0 (sym q)) a.0, ih))
-
 pub well_put : (t : Time) (x : Course) (xs : List Course) → Fits x → course_of xs x.number ≡ None → well xs ≡ true → well (put t x xs) ≡ true
 well_put t x xs r n w =
     to_well (put t x xs) (all_put Fits t x xs r (well_ranged xs w)) (apart_put t x xs (of_absent x.number xs n) (well_apart xs w))
@@ -118,26 +106,11 @@ length_put t x (y ∷ ys) =
     cond_both (behind t x y) (x ∷ y ∷ ys) (y ∷ put t x ys) (λ l. length l ≡ length (y ∷ ys) + 1) (λ _. omega arith) (λ _. omega (arith, ih))
 
 -- ---- one taken out
-all_removed : (P : Course → Type 0) (xs : List Course) (i : ℕ) → AllByRecursion P xs → AllByRecursion P (remove xs i)
-all_removed P [] zero h = tt
-all_removed P [] (suc i) h = tt
-all_removed P (x ∷ xs) zero h = h.1
-all_removed P (x ∷ xs) (suc i) h = (h.0, all_removed P xs i h.1)
-
-apart_removed : (xs : List Course) (i : ℕ) → Apart xs → Apart (remove xs i)
-apart_removed [] zero h = tt
-apart_removed [] (suc i) h = tt
-apart_removed (x ∷ xs) zero h = h.1
-apart_removed (x ∷ xs) (suc i) h = (all_removed (λ y. x.number ≢ y.number) xs i h.0, apart_removed xs i h.1)
-
 pub well_removed : (xs : List Course) (i : ℕ) → well xs ≡ true → well (remove xs i) ≡ true
 well_removed xs i w = to_well (remove xs i) (all_removed Fits xs i (well_ranged xs w)) (apart_removed xs i (well_apart xs w))
 
 pub sorted_without : (t : Time) (n : ℕ) (xs : List Course) → Sorted t xs → Sorted t (without n xs)
-sorted_without t n [] s = tt
-sorted_without t n (x ∷ xs) s =
-    let ih = sorted_without t n xs s.1 in
-    cond_both (eqb x.number n) xs (x ∷ without n xs) (Sorted t) (λ _. s.1) (λ _. (all_without (λ y. behind t x y ≡ true) n xs s.0, ih))
+sorted_without t = pairwise_without (λ x y. behind t x y ≡ true)
 
 -- ---- the searches
 -- whether a course has the number n
@@ -164,31 +137,46 @@ none_there n (x ∷ xs) h =
       | false ↦ λ l. none_there n xs (omega arith)
     ]) h
 
-place_found : (n : ℕ) (xs : List Course) → PlaceOf xs n (position (has_number n) xs)
+-- what the place of the vessel n tells
+abbrev Place : List Course → ℕ → Option ℕ → Type 0
+Place xs n None = course_of xs n ≡ None
+Place xs n (Some i) = (i < length xs) × (remove xs i ≡ without n xs) × ((d : Course) → course_of xs n ≡ Some (get_or xs i d))
+
+place_found : (n : ℕ) (xs : List Course) → Place xs n (place_in n xs)
 place_found n xs =
     let i = position_or_len (has_number n) xs in
-    cond_both (ltb i (length xs)) (Some i) None (PlaceOf xs n)
+    cond_both (ltb i (length xs)) (Some i) None (Place xs n)
     (λ t. let h = ltb-true i (length xs) t in let k = first_there n xs h in (h, k.0, k.1))
     (λ f. none_there n xs (ltb-false i (length xs) f))
 
+pub placed_at : (n : ℕ) (xs : List Course) (i : ℕ) → place_in n xs ≡ Some i →
+    (i < length xs) × (remove xs i ≡ without n xs) × ((d : Course) → course_of xs n ≡ Some (get_or xs i d))
+placed_at n xs i e = subst (Place xs n) e (place_found n xs)
+
+pub not_placed : (n : ℕ) (xs : List Course) → place_in n xs ≡ None → course_of xs n ≡ None
+not_placed n xs e = subst (Place xs n) e (place_found n xs)
+
 -- the first with the number, by what stands before it
-pub found_first : (n : ℕ) (xs : List Course) (i : ℕ) → i < length xs → NoneBefore xs i n → (get_or xs i nobody).number ≡ n → PlaceOf xs n (Some i)
+pub found_first : (n : ℕ) (xs : List Course) (i : ℕ) → i < length xs → NoneBefore xs i n → (get_or xs i nobody).number ≡ n → Some i ≡ place_in n xs
 found_first n xs i h b e =
     let p : position_or_len (has_number n) xs ≡ i =
     position_or_len_is (has_number n) xs i nobody (omega arith) (λ k l. ne_eqb _ n (b k nobody l)) (λ l. eq-eqb _ n e) in
     let t : ltb (position_or_len (has_number n) xs) (length xs) ≡ true = rw p (lt-ltb i (length xs) h) in
-    subst (PlaceOf xs n) (cond-true (ltb (position_or_len (has_number n) xs) (length xs)) (Some (position_or_len (has_number n) xs)) None t ∙ ap Some p) (place_found n xs)
+    sym (cond-true (ltb (position_or_len (has_number n) xs) (length xs)) (Some (position_or_len (has_number n) xs)) None t ∙ ap Some p)
 
-pub found_none : (n : ℕ) (xs : List Course) → NoneBefore xs (length xs) n → PlaceOf xs n None
+pub found_none : (n : ℕ) (xs : List Course) → NoneBefore xs (length xs) n → None ≡ place_in n xs
 found_none n xs b =
-    none_there n xs (omega (arith, position_or_len_is (has_number n) xs (length xs) nobody (omega arith) (λ k l. ne_eqb _ n (b k nobody l)) (λ l. absurd (omega arith))))
+    let p : position_or_len (has_number n) xs ≡ length xs =
+    position_or_len_is (has_number n) xs (length xs) nobody (omega arith) (λ k l. ne_eqb _ n (b k nobody l)) (λ l. absurd (omega arith)) in
+    let f : ltb (position_or_len (has_number n) xs) (length xs) ≡ false = rw p (le-ltb (length xs) (length xs) (omega arith)) in
+    sym (cond-false (ltb (position_or_len (has_number n) xs) (length xs)) (Some (position_or_len (has_number n) xs)) None f)
 
-pub there_is : (n : ℕ) (xs : List Course) (o : Option ℕ) → PlaceOf xs n o → is_some o ≡ true → (d : Course) × (course_of xs n ≡ Some d)
+pub there_is : (n : ℕ) (xs : List Course) (o : Option ℕ) → o ≡ place_in n xs → is_some o ≡ true → (d : Course) × (course_of xs n ≡ Some d)
 there_is n xs None p e = absurd (false≢true e)
-there_is n xs (Some i) p e = (get_or xs i nobody, p.2 nobody)
+there_is n xs (Some i) p e = (get_or xs i nobody, (placed_at n xs i (sym p)).2 nobody)
 
-pub there_is_none : (n : ℕ) (xs : List Course) (o : Option ℕ) → PlaceOf xs n o → is_some o ≡ false → course_of xs n ≡ None
-there_is_none n xs None p e = p
+pub there_is_none : (n : ℕ) (xs : List Course) (o : Option ℕ) → o ≡ place_in n xs → is_some o ≡ false → course_of xs n ≡ None
+there_is_none n xs None p e = not_placed n xs (sym p)
 there_is_none n xs (Some i) p e = absurd (false≢true (sym e))
 
 -- the first place whose course the new one is behind
@@ -201,7 +189,7 @@ put_there t c (y ∷ ys) =
       | false ↦ rw (one-add i) (ap (λ l. y ∷ l) (put_there t c ys))
     ]
 
-pub put_found : (t : Time) (c : Course) (xs : List Course) → insert xs (unwrap_or (position (behind t c) xs) (length xs)) c ≡ put t c xs
+pub put_found : (t : Time) (c : Course) (xs : List Course) → insert xs (entry_place t c xs) c ≡ put t c xs
 put_found t c xs =
     let i = position_or_len (behind t c) xs in
     cond_both (ltb i (length xs)) (Some i) None (λ o. insert xs (unwrap_or o (length xs)) c ≡ put t c xs)
@@ -209,15 +197,15 @@ put_found t c xs =
     (λ f. ap (λ k. insert xs k c) (omega (arith, ltb-false i (length xs) f, prefix_len-le-length (λ y. not (behind t c y)) xs)) ∙ put_there t c xs)
 
 -- certificates before a place stay
-before_same : (xs ys : List Course) (d : Course) (p k : ℕ) → p ≤ length xs → p ≤ length ys → ((j : ℕ) → j < p → get_or ys j d ≡ get_or xs j d) → k + 1 < p → pair_at ys k ≡ pair_at xs k
+before_same : (xs ys : List Course) (d : Course) (p k : ℕ) → p ≤ length xs → p ≤ length ys → ((j : ℕ) → j < p → get_or ys j d ≡ get_or xs j d) → k + 1 < p → certificate_at ys k ≡ certificate_at xs k
 before_same xs ys d p k hx hy e h =
-    cert_is ys k d (omega arith) ∙ ap (λ z. Some (pair z (get_or ys (suc k) d))) (e k (omega arith)) ∙ ap (λ z. Some (pair (get_or xs k d) z)) (e (suc k) (omega arith)) ∙ sym (cert_is xs k d (omega arith))
+    cert_is ys k d (omega arith) ∙ ap (λ z. Some (z, get_or ys (suc k) d)) (e k (omega arith)) ∙ ap (λ z. Some (get_or xs k d, z)) (e (suc k) (omega arith)) ∙ sym (cert_is xs k d (omega arith))
 
-pub certs_in : (xs ys : List Course) (p : ℕ) (c : Course) → p ≤ length xs → ys ≡ insert xs p c → (k : ℕ) → k + 1 < p → pair_at ys k ≡ pair_at xs k
+pub certs_in : (xs ys : List Course) (p : ℕ) (c : Course) → p ≤ length xs → ys ≡ insert xs p c → (k : ℕ) → k + 1 < p → certificate_at ys k ≡ certificate_at xs k
 certs_in xs ys p c h e k l =
     before_same xs ys c p k h (omega (arith, ap length e, length-insert xs p c h)) (λ j i. ap (λ z. get_or z j c) e ∙ get_or-insert_below xs p c c j i h) l
 
-pub certs_out : (xs ys : List Course) (d : Course) (p : ℕ) → p < length xs → ys ≡ remove xs p → (k : ℕ) → k + 1 < p → pair_at ys k ≡ pair_at xs k
+pub certs_out : (xs ys : List Course) (d : Course) (p : ℕ) → p < length xs → ys ≡ remove xs p → (k : ℕ) → k + 1 < p → certificate_at ys k ≡ certificate_at xs k
 certs_out xs ys d p h e k l =
     before_same xs ys d p k (omega arith) (omega (arith, ap length e, length-remove xs p h)) (λ j i. ap (λ z. get_or z j d) e ∙ get_or-remove_below xs p d j i h) l
 
@@ -226,7 +214,7 @@ same_after : (xs zs ys : List Course) (d x : Course) (i p : ℕ) → i < length 
 same_after xs zs ys d x i p h w e g j l m =
     ap (λ z. get_or z (j + 1) d) g ∙ get_or-insert_above zs p x d j m w ∙ ap (λ z. get_or z j d) e ∙ get_or-remove_above xs i d j l h
 
-pub certs_after : (xs zs ys : List Course) (d x : Course) (i p : ℕ) → i < length xs → p ≤ length zs → zs ≡ remove xs i → ys ≡ insert zs p x → (k : ℕ) → i < k → p < k → pair_at ys k ≡ pair_at xs k
+pub certs_after : (xs zs ys : List Course) (d x : Course) (i p : ℕ) → i < length xs → p ≤ length zs → zs ≡ remove xs i → ys ≡ insert zs p x → (k : ℕ) → i < k → p < k → certificate_at ys k ≡ certificate_at xs k
 certs_after xs zs ys d x i p h w e g zero l m = absurd (omega arith)
 certs_after xs zs ys d x i p h w e g (suc j) l m =
     let a = same_after xs zs ys d x i p h w e g j (omega arith) (omega arith) in
@@ -235,6 +223,6 @@ certs_after xs zs ys d x i p h w e g (suc j) l m =
     let b' : get_or ys (suc (suc j)) d ≡ get_or xs (suc (suc j)) d = subst (λ k. get_or ys k d ≡ get_or xs k d) (add-one (j + 1) ∙ ap suc (add-one j)) b in
     let q : length ys ≡ length xs = omega (arith, ap length g, length-insert zs p x w, ap length e, length-remove xs i h) in
     ⊎_elim
-    (λ (s : suc (suc j) < length xs). cert_is ys (suc j) d (omega arith) ∙ ap (λ z. Some (pair z (get_or ys (suc (suc j)) d))) a' ∙ ap (λ z. Some (pair (get_or xs (suc j) d) z)) b' ∙ sym (cert_is xs (suc j) d s))
+    (λ (s : suc (suc j) < length xs). cert_is ys (suc j) d (omega arith) ∙ ap (λ z. Some (z, get_or ys (suc (suc j)) d)) a' ∙ ap (λ z. Some (get_or xs (suc j) d, z)) b' ∙ sym (cert_is xs (suc j) d s))
     (λ (s : length xs ≤ suc (suc j)). cert_past ys (suc j) (omega arith) ∙ sym (cert_past xs (suc j) s))
     (cases_lt (suc (suc j)) (length xs))

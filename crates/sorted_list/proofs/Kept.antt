@@ -6,13 +6,14 @@ use Rattle.std.proofs.lemmas.List.{set-get_or}
 use Rattle.std.proofs.lemmas.List.Edits.{length-remove, get_or-remove_below, get_or-remove_above}
 use Rattle.fairway.specs.Times.{Time}
 use Rattle.fairway.specs.Behind.{behind}
-use Rattle.fairway.specs.Orders.{Apart, Sorted, put, load}
+use Rattle.fairway.specs.Orders.{Sorted, put, load}
 use Rattle.fairway.specs.Rosters.{course_of, without}
 use Rattle.fairway.specs.declared.course.Course.{Course}
 use Rattle.fairway.proofs.Laws.{transitive}
-use Rattle.fairway.proofs.Rosters.{of_absent}
+use Rattle.fairway.proofs.Pairwise.{all_inserted}
+use Rattle.fairway.proofs.Rosters.{of_absent, apart_inserted}
 use Rattle.fairway.proofs.Sorting.{back}
-use Rattle.sorted_list.specs.Ranks.{Between}
+use Rattle.sorted_list.specs.Places.{Between}
 use Rattle.sorted_list.specs.Rosters.{well}
 use Rattle.sorted_list.specs.Loads.{crossed}
 use Rattle.sorted_list.specs.LoadsLemmas.{load_inserted}
@@ -24,21 +25,9 @@ set_at [] i c h = absurd (omega arith)
 set_at (x ∷ xs) zero c h = refl
 set_at (x ∷ xs) (suc i) c h = ap (λ l. x ∷ l) (set_at xs i c (omega arith))
 
-all_at : (P : Course → Type 0) (xs : List Course) (i : ℕ) (c : Course) → P c → AllByRecursion P xs → AllByRecursion P (insert xs i c)
-all_at P [] zero c p h = (p, tt)
-all_at P [] (suc i) c p h = (p, tt)
-all_at P (x ∷ xs) zero c p h = (p, h)
-all_at P (x ∷ xs) (suc i) c p h = (h.0, all_at P xs i c p h.1)
-
-apart_at : (xs : List Course) (i : ℕ) (c : Course) → AllByRecursion (λ y. c.number ≢ y.number) xs → Apart xs → Apart (insert xs i c)
-apart_at [] zero c n a = (tt, tt)
-apart_at [] (suc i) c n a = (tt, tt)
-apart_at (x ∷ xs) zero c n a = (n, a)
-apart_at (x ∷ xs) (suc i) c n a = (all_at (λ y. x.number ≢ y.number) xs i c (λ q. n.0 (sym q)) a.0, apart_at xs i c n.1 a.1)
-
 pub well_at : (xs : List Course) (i : ℕ) (c : Course) → Fits c → course_of xs c.number ≡ None → well xs ≡ true → well (insert xs i c) ≡ true
 well_at xs i c f n w =
-    to_well (insert xs i c) (all_at Fits xs i c f (well_ranged xs w)) (apart_at xs i c (of_absent c.number xs n) (well_apart xs w))
+    to_well (insert xs i c) (all_inserted Fits xs i c f (well_ranged xs w)) (apart_inserted xs i c (of_absent c.number xs n) (well_apart xs w))
 
 there_all : (xs : List Course) (i : ℕ) (c : Course) → AllByRecursion (λ y. c.number ≢ y.number) xs → course_of (insert xs i c) c.number ≡ Some c
 there_all [] zero c n = cond-true (eqb c.number c.number) (Some c) None (eq-eqb c.number c.number refl)
@@ -84,7 +73,7 @@ module _ (t : Time) (c : Course) where
       ap (λ z. y ∷ z) (kept_is_put ys i s.1 (omega arith) (λ k d e. r (suc k) d (ap suc e)) (λ d h. f d (omega arith)))
       ∙ sym (cond-false (behind t c y) (c ∷ y ∷ ys) (y ∷ put t c ys) (back t y c b))
 
-  -- the same, where the course takes the place of its vessel's
+  -- the course of a vessel that is between its neighbours stands, in its place, where it would be put
   pub kept_put : (xs : List Course) (i : ℕ) → i < length xs → Sorted t xs → remove xs i ≡ without c.number xs → Between t xs i c →
       insert (remove xs i) i c ≡ put t c (remove xs i)
   kept_put xs i h s e b =

@@ -1,19 +1,22 @@
 -- Neighbours in a list that is in order.
-use Rattle.std.proofs.Common.{◌≡◌, ℕ, zero, suc, ◌+◌, ◌-◌, ◌<◌, ◌≤◌, true, false, List, [], ◌∷◌, length, get_or, slice_get, Some, None, sym, refl, ap, ◌∙◌, subst, inl, inr, ⊎_elim, arith}
+use Rattle.std.proofs.Common.{◌≡◌, ℕ, zero, suc, ◌+◌, ◌-◌, ◌<◌, ◌≤◌, true, false, List, [], ◌∷◌, length, get_or, slice_get, Some, None, Option, sym, refl, ap, ◌∙◌, subst, inl, inr, ⊎_elim, arith}
 use Rattle.std.proofs.lemmas.Option.{slice_get-get_or, slice_get_past}
-use Rattle.std.proofs.ByRecursion.{All-get_or}
 use Rattle.std.proofs.lemmas.Bool.{cases_lt, cases_order, both_ways}
 use Rattle.fairway.specs.Times.{Time}
 use Rattle.fairway.specs.Behind.{behind}
 use Rattle.fairway.specs.Orders.{Holds, Sorted}
 use Rattle.fairway.specs.declared.course.Course.{Course}
+use Rattle.kinetic.specs.Structures.{vessel_refusal, Rests}
 use Rattle.fairway.specs.Courses.{Due}
 use Rattle.fairway.specs.Standing.{Stands}
+use Rattle.fairway.proofs.Pairwise.{pairwise_at}
 use Rattle.fairway.proofs.Sorting.{self, back}
 use Rattle.fairway.proofs.Lists.{nobody}
 use Rattle.fairway.specs.Rosters.{course_of}
 use Rattle.fairway.proofs.Rosters.{found, of_found}
+use Rattle.sorted_list.specs.Questions.{courses_of, means, Beside}
 use Rattle.sorted_list.specs.Rosters.{well}
+use Rattle.sorted_list.specs.declared.list.SortedList.{SortedList}
 use Rattle.sorted_list.specs.Ranks.{Next, NextAhead, NextBehind}
 use Rattle.event_queue.proofs.Options.{some_same}
 use Rattle.sorted_list.specs.RostersLemmas.{well_apart}
@@ -33,10 +36,7 @@ holds_at (x ∷ xs) (suc i) d h = inr (holds_at xs i d (omega arith))
 
 module _ (t : Time) where
   sorted_at : (xs : List Course) (i j : ℕ) (d : Course) → Sorted t xs → i < j → j < length xs → behind t (get_or xs i d) (get_or xs j d) ≡ true
-  sorted_at [] i j d s h l = absurd (omega arith)
-  sorted_at (x ∷ xs) i zero d s h l = absurd (omega arith)
-  sorted_at (x ∷ xs) zero (suc j) d s h l = All-get_or (λ y. behind t x y ≡ true) xs j d (omega arith) s.0
-  sorted_at (x ∷ xs) (suc i) (suc j) d s h l = sorted_at xs i j d s.1 (omega arith) (omega arith)
+  sorted_at = pairwise_at (λ x y. behind t x y ≡ true)
 
   -- who is behind whom tells the places
   places : (xs : List Course) (i j : ℕ) (d : Course) → Sorted t xs → i < length xs → j < length xs → behind t (get_or xs i d) (get_or xs j d) ≡ true → i < j
@@ -111,3 +111,11 @@ module _ (xs : List Course) (w : well xs ≡ true) (n i : ℕ) (h : i < length x
       (λ (z : 0 < i). subst (NextBehind t (course_of xs) c) (sym (rear_some xs i z h ∙ slice_get-get_or xs (i - 1) nobody (omega arith))) (next_behind t xs w s nobody i c z h (at_own c q)))
       (λ (z : i ≤ 0). let e : 0 ≡ i = omega arith in subst (NextBehind t (course_of xs) c) (sym (rear_none xs i z)) (none_behind t xs w s nobody c (omega arith) (ap (λ k. get_or xs k nobody) e ∙ at_own c q)))
       (cases_lt 0 i)
+
+-- the answer is the course o, which stands beside the vessel n and is its neighbour while the list rests
+pub beside : (s : SortedList) (n : ℕ) (N : Time → (ℕ → Option Course) → Course → Option Course → Type 0) {answer o neighbour : Option Course} →
+    vessel_refusal means s n ≡ None → answer ≡ o → o ≡ neighbour →
+    ((c : Course) → course_of (courses_of s) n ≡ Some c → (t : Time) → Rests means t s → N t (course_of (courses_of s)) c o) →
+    Beside s n neighbour N answer
+beside s n N aboard e stands next =
+    record { aboard = aboard; value = e ∙ stands; next = λ c q t r. subst (N t (course_of (courses_of s)) c) (sym e) (next c q t r) }

@@ -1,11 +1,16 @@
 -- The laws of a kinetic structure, for lists of courses.
-use Rattle.std.specs.Prelude.{◌≡◌, ℕ, ◌<◌, ◌≤◌, true, List, [], ◌∷◌, length, Some, refl}
+use Rattle.std.specs.Prelude.{◌≡◌, ℕ, zero, suc, ◌<◌, ◌≤◌, true, cond, List, [], ◌∷◌, length, Some, refl}
 use Rattle.std.proofs.Common.{sym, ap, subst, ◌∙◌, ⊎_elim, arith}
+use Rattle.std.proofs.lemmas.Bool.{cond-true}
+use Rattle.std.proofs.lemmas.List.Sums.{sum_by-cons}
+use Rattle.event_queue.proofs.Options.{none_some, some_same}
 use Rattle.fairway.specs.Times.{Time, Proper, ◌≤ᵗ◌}
-use Rattle.fairway.specs.Courses.{Due}
-use Rattle.fairway.specs.Orders.{Sorted}
+use Rattle.fairway.specs.Courses.{Due, faster}
+use Rattle.fairway.specs.Orders.{Sorted, load}
 use Rattle.fairway.specs.Standing.{Stands, InOrderOrDue, NotLevelBefore}
 use Rattle.fairway.specs.declared.course.Course.{Course}
+use Rattle.fairway.proofs.Advance.{due_faster}
+use Rattle.fairway.proofs.Loads.{load_cons}
 use Rattle.fairway.proofs.Sorting.{held}
 use Rattle.fairway.proofs.Standings.{near, stands_sorted, stands_later, sorted_stands, sorted_none_due}
 use Rattle.fairway.specs.Rosters.{course_of}
@@ -14,13 +19,12 @@ use Rattle.kinetic.specs.Structures.{Aboard, Front, vessels}
 use Rattle.kinetic.proofs.Counts.{vessels_listed}
 use Rattle.sorted_list.specs.Rosters.{last_number, last_of, well}
 use Rattle.sorted_list.specs.RostersLemmas.{Fits, cert_near, near_cert, cert_holds, holds_last, behind_last, well_ranged, well_apart}
-use Rattle.fairway.specs.Lists.{pair_at}
-use Rattle.fairway.specs.Orders.{pair}
+use Rattle.sorted_list.specs.Rosters.{certificate_at}
 
 module _ (xs : List Course) where
   -- P of each two neighbours
   abbrev pub Each : (Course → Course → Type 0) → Type 0
-  Each P = (i : ℕ) (r f : Course) → pair_at xs i ≡ Some (pair r f) → P r f
+  Each P = (i : ℕ) (r f : Course) → certificate_at xs i ≡ Some (r, f) → P r f
 
   pub ordered : (t : Time) → Stands t xs → Each (InOrderOrDue t)
   ordered t s = cert_near (InOrderOrDue t) xs (near t xs s)
@@ -35,7 +39,7 @@ module _ (xs : List Course) where
   pub lasts : (t u : Time) → Proper t → Proper u → t ≤ᵗ u → Stands t xs → Each (NotLevelBefore u) → Stands u xs
   lasts t u pt pu l s n = stands_later t u pt pu l xs s (near_cert (NotLevelBefore u) xs n)
 
-  pub certified : length xs ≤ 64 → well xs ≡ true → (i : ℕ) (r f : Course) → pair_at xs i ≡ Some (pair r f) → (i < 64) × (course_of xs r.number ≡ Some r) × (course_of xs f.number ≡ Some f)
+  pub certified : length xs ≤ 64 → well xs ≡ true → (i : ℕ) (r f : Course) → certificate_at xs i ≡ Some (r, f) → (i < 64) × (course_of xs r.number ≡ Some r) × (course_of xs f.number ≡ Some f)
   certified l w i r f e =
       let k = cert_holds xs i r f e in
       let a = well_apart xs w in
@@ -60,3 +64,12 @@ front t (x ∷ xs) w s =
 
 pub counted : (xs : List Course) → well xs ≡ true → length xs ≡ vessels (course_of xs)
 counted xs w = vessels_listed {P = Fits} (λ c f. f.number) xs (well_apart xs w) (well_ranged xs w)
+
+-- neighbours that are due are a pair whose rear is the faster
+pub loaded : (t : Time) (xs : List Course) (i : ℕ) (r f : Course) → certificate_at xs i ≡ Some (r, f) → Due t r f → 0 < load xs
+loaded t [] i r f e d = absurd (none_some e)
+loaded t (x ∷ []) i r f e d = absurd (none_some e)
+loaded t (x ∷ y ∷ ys) zero r f e d =
+    let one = cond-true {A = ℕ} (faster x y) 1 0 (ap (λ z. faster z.0 z.1) (some_same e) ∙ due_faster t r f d) in
+    omega (arith, load_cons x (y ∷ ys), sum_by-cons (λ z. cond (faster x z) 1 0) y ys, one)
+loaded t (x ∷ y ∷ ys) (suc i) r f e d = omega (arith, load_cons x (y ∷ ys), loaded t (y ∷ ys) i r f e d)

@@ -1,8 +1,10 @@
 pub mod Rosters
+pub mod Places
 pub mod Loads
 pub mod Ranks
 pub mod Means
 pub mod Questions
+pub mod ListAfter
 pub mod Laws
 pub mod RostersLemmas
 pub mod ListStructureLemmas

@@ -6,7 +6,7 @@ use Rattle.fairway.specs.Standing.{Stands}
 use Rattle.fairway.specs.declared.course.Course.{Course}
 use Rattle.kinetic.specs.Structures.{Meaning}
 use Rattle.sorted_list.specs.Rosters.{last_number}
-use Rattle.fairway.specs.Lists.{pair_at}
+use Rattle.sorted_list.specs.Rosters.{certificate_at}
 
 -- It stands where every two, neighbours or not, are in order or due: neighbours alone would not do. A mend
 -- exchanges the two.
@@ -18,6 +18,6 @@ list_meaning courses =
       count = λ s. length (courses s);
       foremost = λ s. last_number (courses s);
       load = λ s. load (courses s);
-      certificate = λ s i. pair_at (courses s) i;
+      certificate = λ s i. certificate_at (courses s) i;
       mended = λ rear front s s'. Exchange rear front (courses s) (courses s');
     }

@@ -1,5 +1,5 @@
 -- Ranks and neighbours in a roster at a time, whatever list holds it.
-use Rattle.std.specs.Prelude.{◌≡◌, ℕ, ◌+◌, ◌<◌, true, List, length, slice_index_or, Some, None, count_by, Option, ◌≢◌}
+use Rattle.std.specs.Prelude.{◌≡◌, ◌≢◌, ℕ, true, List, Some, None, count_by, Option}
 use Rattle.fairway.specs.Times.{Time}
 use Rattle.fairway.specs.Behind.{behind}
 use Rattle.fairway.specs.declared.course.Course.{Course}
@@ -7,12 +7,6 @@ use Rattle.fairway.specs.declared.course.Course.{Course}
 -- how many of xs are in front of c
 abbrev pub in_front : Time → Course → List Course → ℕ
 in_front t c xs = count_by (behind t c) xs
-
--- c is in front of the i-th's neighbour behind, and behind its neighbour in front, as far as it has them
-abbrev pub Between : Time → List Course → ℕ → Course → Type 0
-Between t xs i c =
-    ((k : ℕ) (d : Course) → k + 1 ≡ i → behind t (slice_index_or xs k d) c ≡ true) ×
-    ((d : Course) → i + 1 < length xs → behind t c (slice_index_or xs (i + 1) d) ≡ true)
 
 -- f is in front of r, and no vessel is between the two
 pub record Next (t : Time) (roster : ℕ → Option Course) (r f : Course) : Type 0 where

@@ -1,8 +1,6 @@
 -- A list of courses as a roster, and its neighbours as certificates.
-use Rattle.std.specs.Prelude.{◌≡◌, ◌≢◌, ℕ, ◌<◌, Bool, true, cond, not, ◌&&◌, List, [], ◌∷◌, length, Some, None, Option, ◌==◌, nat_lt, slice_index_or}
-use Rattle.std.specs.List.{remove}
+use Rattle.std.specs.Prelude.{ℕ, zero, suc, Bool, true, cond, not, ◌&&◌, List, [], ◌∷◌, Some, None, Option, ◌==◌, nat_lt}
 use Rattle.fairway.specs.declared.course.Course.{Course}
-use Rattle.fairway.specs.Rosters.{course_of, without}
 use Rattle.kinetic.specs.Limits.{out_of_range}
 
 -- the number of the last
@@ -13,6 +11,13 @@ last_of x (y ∷ ys) = last_of y ys
 abbrev pub last_number : List Course → Option ℕ
 last_number [] = None
 last_number (x ∷ xs) = Some (last_of x xs).number
+
+-- the i-th of the list and the next: the certificate of the number i, rear first
+abbrev pub certificate_at : List Course → ℕ → Option (Course × Course)
+certificate_at [] i = None
+certificate_at (x ∷ []) i = None
+certificate_at (x ∷ y ∷ ys) zero = Some (x, y)
+certificate_at (x ∷ y ∷ ys) (suc i) = certificate_at (y ∷ ys) i
 
 -- the course that stands next after that of the vessel n, and next before it
 abbrev pub next_after : ℕ → List Course → Option Course
@@ -38,12 +43,3 @@ fresh n (y ∷ ys) = not (y.number == n) && fresh n ys
 abbrev pub well : List Course → Bool
 well [] = true
 well (x ∷ xs) = (allowed x && fresh x.number xs) && well xs
-
--- the place of the vessel n, or none
-abbrev pub PlaceOf : List Course → ℕ → Option ℕ → Type 0
-PlaceOf xs n None = course_of xs n ≡ None
-PlaceOf xs n (Some i) = (i < length xs) × (remove xs i ≡ without n xs) × ((d : Course) → course_of xs n ≡ Some (slice_index_or xs i d))
-
--- the vessels before the place i have other numbers than n
-abbrev pub NoneBefore : List Course → ℕ → ℕ → Type 0
-NoneBefore xs i n = (k : ℕ) (d : Course) → k < i → (slice_index_or xs k d).number ≢ n

@@ -14,8 +14,7 @@ use Rattle.fairway.specs.Standing.{Neighbours}
 use Rattle.fairway.proofs.Sorting.{held}
 use Rattle.kinetic.proofs.Tests.{within, of_range}
 use Rattle.sorted_list.specs.Rosters.{allowed, fresh, well, last_of}
-use Rattle.fairway.specs.Lists.{pair_at}
-use Rattle.fairway.specs.Orders.{pair}
+use Rattle.sorted_list.specs.Rosters.{certificate_at}
 
 -- ---- within limits, apart
 -- within its limits, as the code keeps them
@@ -55,32 +54,32 @@ to_well (x ∷ xs) r a =
     (and_from (allowed x) (fresh x.number xs) (of_fits x r.0) (all_fresh x.number xs a.0)) (to_well xs r.1 a.1)
 
 -- ---- certificates
-pub cert_near : (P : Course → Course → Type 0) (xs : List Course) → Neighbours P xs → (i : ℕ) (r f : Course) → pair_at xs i ≡ Some (pair r f) → P r f
+pub cert_near : (P : Course → Course → Type 0) (xs : List Course) → Neighbours P xs → (i : ℕ) (r f : Course) → certificate_at xs i ≡ Some (r, f) → P r f
 cert_near P [] n i r f e = absurd (none_some e)
 cert_near P (x ∷ []) n i r f e = absurd (none_some e)
 cert_near P (x ∷ y ∷ ys) n zero r f e =
     let q = some_same e in
-    subst (λ z. P z f) (ap (λ z. z.rear) q) (subst (P x) (ap (λ z. z.front) q) n.0)
+    subst (λ z. P z f) (ap (λ z. z.0) q) (subst (P x) (ap (λ z. z.1) q) n.0)
 cert_near P (x ∷ y ∷ ys) n (suc i) r f e = cert_near P (y ∷ ys) n.1 i r f e
 
-pub near_cert : (P : Course → Course → Type 0) (xs : List Course) → ((i : ℕ) (r f : Course) → pair_at xs i ≡ Some (pair r f) → P r f) → Neighbours P xs
+pub near_cert : (P : Course → Course → Type 0) (xs : List Course) → ((i : ℕ) (r f : Course) → certificate_at xs i ≡ Some (r, f) → P r f) → Neighbours P xs
 near_cert P [] h = tt
 near_cert P (x ∷ []) h = tt
 near_cert P (x ∷ y ∷ ys) h = (h 0 x y refl, near_cert P (y ∷ ys) (λ i r f e. h (suc i) r f e))
 
-pub cert_holds : (xs : List Course) (i : ℕ) (r f : Course) → pair_at xs i ≡ Some (pair r f) → (suc i < length xs) × Holds xs r × Holds xs f
+pub cert_holds : (xs : List Course) (i : ℕ) (r f : Course) → certificate_at xs i ≡ Some (r, f) → (suc i < length xs) × Holds xs r × Holds xs f
 cert_holds [] i r f e = absurd (none_some e)
 cert_holds (x ∷ []) i r f e = absurd (none_some e)
-cert_holds (x ∷ y ∷ ys) zero r f e = let q = some_same e in (omega arith, inl (ap (λ z. z.rear) q), inr (inl (ap (λ z. z.front) q)))
+cert_holds (x ∷ y ∷ ys) zero r f e = let q = some_same e in (omega arith, inl (ap (λ z. z.0) q), inr (inl (ap (λ z. z.1) q)))
 cert_holds (x ∷ y ∷ ys) (suc i) r f e = let k = cert_holds (y ∷ ys) i r f e in (omega (arith, k.0), inr k.1, inr k.2)
 
-pub cert_past : (xs : List Course) (i : ℕ) → length xs ≤ suc i → pair_at xs i ≡ None
+pub cert_past : (xs : List Course) (i : ℕ) → length xs ≤ suc i → certificate_at xs i ≡ None
 cert_past [] i h = refl
 cert_past (x ∷ []) i h = refl
 cert_past (x ∷ y ∷ ys) zero h = absurd (omega arith)
 cert_past (x ∷ y ∷ ys) (suc i) h = cert_past (y ∷ ys) i (omega arith)
 
-pub cert_is : (xs : List Course) (i : ℕ) (d : Course) → suc i < length xs → pair_at xs i ≡ Some (pair (slice_index_or xs i d) (slice_index_or xs (suc i) d))
+pub cert_is : (xs : List Course) (i : ℕ) (d : Course) → suc i < length xs → certificate_at xs i ≡ Some ((slice_index_or xs i d), (slice_index_or xs (suc i) d))
 cert_is [] i d h = absurd (omega arith)
 cert_is (x ∷ []) i d h = absurd (omega arith)
 cert_is (x ∷ y ∷ ys) zero d h = refl

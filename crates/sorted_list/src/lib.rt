@@ -1,3 +1,5 @@
+//! A kinetic sorted list: the courses from rear to front, which a mend keeps right by exchanging two neighbours.
+
 #![tactic(auto)]
 
 mod edits;

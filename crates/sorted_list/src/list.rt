@@ -4,8 +4,11 @@ ghost use Rattle.sorted_list.specs.Rosters.{well};
 
 use fairway::course::Course;
 
-// A kinetic sorted list: the courses from rear to front, and how many pairs, neighbours or not, have a
-// faster rear.
+// How many vessels a list has room for.
+pub(crate) const MOST_VESSELS: usize = 64;
+
+/// A kinetic sorted list: the courses from rear to front, and how many pairs, neighbours or not, have a
+/// faster rear.
 #[derive(Drop)]
 pub struct SortedList {
     pub(crate) courses: Vec<Course>,

@@ -1,12 +1,10 @@
-ghost use Rattle.std.specs.Prelude.{◌≡◌, ℕ, ◌+◌, ◌<◌, ◌≤◌, true, false, length};
-ghost use Rattle.std.specs.List.{insert, remove};
+ghost use Rattle.std.specs.Prelude.{◌≡◌, ℕ, ◌+◌, ◌<◌, ◌≤◌, length};
+ghost use Rattle.std.specs.Bool.{Decides};
+ghost use Rattle.std.specs.List.{remove};
 ghost use Rattle.fairway.specs.Stamps.{time_of};
-ghost use Rattle.fairway.specs.Orders.{put, faster_than, slower_than};
-ghost use Rattle.kinetic.specs.Numbers.{among};
-ghost use Rattle.sorted_list.specs.Rosters.{PlaceOf, NoneBefore};
+ghost use Rattle.fairway.specs.Orders.{faster_than, slower_than};
 ghost use Rattle.sorted_list.specs.Loads.{crossed};
-ghost use Rattle.sorted_list.specs.Ranks.{in_front, Between};
-ghost use Rattle.fairway.specs.Courses.{Decides};
+ghost use Rattle.sorted_list.specs.Places.{place_in, NoneBefore, entry_place, Between, named_from};
 
 use fairway::course::Course;
 use fairway::stamp::Stamp;
@@ -37,17 +35,6 @@ fn count_slower(courses: &[Course], rear: Course) -> u16
         count += u16::from(rear.is_faster(*front));
     }
     count
-}
-
-// How many of the courses are in front of a vessel.
-pub(crate) fn count_in_front(courses: &[Course], own: Course, at: Stamp) -> usize
-    ensures count { result ≡ in_front (time_of at) own courses.now }
-    ensures few { result ≤ length courses.now }
-{
-    courses
-        .iter()
-        .filter(|other| own.is_behind(**other, at))
-        .count()
 }
 
 // How many of the courses are faster than a front with one course, and with another. Two counts in one loop look at
@@ -112,11 +99,11 @@ pub(crate) fn crossings(courses: &[Course], place: usize, course: Course) -> usi
     usize::from(count_faster(&courses[..place], course) + count_slower(&courses[place..], course))
 }
 
-// The same, where the vessels before a place have other numbers.
+// The place of the vessel with a number, or none, where those before the start have other numbers.
 fn place_from(courses: &[Course], start: usize, number: u16) -> Option<usize>
     requires within { start ≤ length courses.now }
     requires others { NoneBefore courses.now start number }
-    ensures { PlaceOf courses.now number result }
+    ensures { result ≡ place_in number courses.now }
 {
     let mut place = start;
     for course in &courses[start..] {
@@ -128,11 +115,11 @@ fn place_from(courses: &[Course], start: usize, number: u16) -> Option<usize>
     None
 }
 
-// The place of the vessel with a number, counted from 0 at the rear, or none. Each turn looks at four: a loop over one
-// takes more instructions to count and to end than to compare.
+/// The place, counted from 0 at the rear, of the vessel with a number, or none.
+// Each turn looks at four: a loop over one takes more instructions to count and to end than to compare.
 #[inline(never)]
 pub fn place_of(courses: &[Course], number: u16) -> Option<usize>
-    ensures { PlaceOf courses.now number result }
+    ensures { result ≡ place_in number courses.now }
 {
     let mut place = 0;
     while place + 4 <= courses.len() {
@@ -153,11 +140,12 @@ pub fn place_of(courses: &[Course], number: u16) -> Option<usize>
     place_from(courses, place, number)
 }
 
-// The place for a course: before the first vessel, from the rear, that it is behind. It looks from one end, since
-// at a given instant the list need not be in order, and then a search by halves finds any place.
+/// The place for a course: that of the first vessel, from the rear, that it is behind, or in front of all.
+// It looks from one end, since while something is due the list need not be in order, and then a search by halves
+// finds any place.
 pub fn place_for(courses: &[Course], course: Course, at: Stamp) -> usize
     ensures within { result ≤ length courses.now }
-    ensures put { insert courses.now result course ≡ put (time_of at) course courses.now }
+    ensures first { result ≡ entry_place (time_of at) course courses.now }
 {
     courses
         .iter()
@@ -169,7 +157,7 @@ pub fn place_for(courses: &[Course], course: Course, at: Stamp) -> usize
 // the one after it.
 pub(crate) fn keeps_place(courses: &[Course], place: usize, course: Course, at: Stamp) -> bool
     requires { place < length courses.now }
-    ensures { Decides (Between (time_of at) courses.now place course) result }
+    ensures { Decides result (Between (time_of at) courses.now place course) }
 {
     if place > 0 && !courses[place - 1].is_behind(course, at) {
         return false;
@@ -181,7 +169,7 @@ pub(crate) fn keeps_place(courses: &[Course], place: usize, course: Course, at: 
 // `Extend` of `Numbers` would be this loop, for this one caller.
 pub(crate) fn numbers_from(place: usize, end: usize) -> Numbers
     requires { end ≤ 64 }
-    ensures { (i : ℕ) → i < end → among i result ≡ false → i + 1 < place }
+    ensures { result ≡ named_from place end }
 {
     let mut numbers = Numbers::new();
     let first = place.saturating_sub(1);

@@ -1,31 +1,38 @@
+ghost use Rattle.std.specs.Prelude.{◌≡◌, []};
+ghost use Rattle.fairway.specs.Orders as fair;
+ghost use Rattle.fairway.specs.Stamps.{time_of};
+ghost use Rattle.kinetic.specs.Structures.{Cleared, Entered, Left, Steered, Mended};
 ghost use Rattle.sorted_list.specs.Means.{list_meaning};
+ghost use Rattle.sorted_list.specs.ListAfter.{EntryPuts, LeaveTakes, SteerMoves, MendSwaps};
+ghost use Rattle.sorted_list.specs.Questions.{means, courses_of};
 ghost use Rattle.sorted_list.specs.Laws;
 ghost use Rattle.sorted_list.specs.Laws.{rests_sorted, front, lasts};
 ghost use Rattle.sorted_list.specs.ListStructureLemmas.{few};
 ghost use Rattle.sorted_list.specs.LoadsLemmas.{load_bounded};
 
-use crate::list::SortedList;
+use crate::list::{MOST_VESSELS, SortedList};
 use crate::places::{keeps_place, numbers_from, place_of};
 use fairway::course::Course;
-use fairway::pair::Pair;
 use fairway::stamp::Stamp;
 use kinetic::limits::{check, is_certificate_due};
 use kinetic::numbers::Numbers;
 use kinetic::refusal::Refusal;
 use kinetic::structure::Structure;
 
-// The sorted list as a kinetic structure: the certificate of a number is of the vessel at that place and
-// the next, and a mend exchanges the two.
+/// The sorted list as a kinetic structure: the certificate of a number is of the vessel at that place and
+/// the next, and a mend exchanges the two.
 impl Structure for SortedList {
     ghost means = { list_meaning (λ s. s.courses.items) };
 
-    ghost ordered = { λ t s st i r f e. Laws.ordered s.courses.items t st i r f e };
+    ghost ordered = { λ t s p st i r f e. Laws.ordered s.courses.items t st i r f e };
 
-    ghost leads = { λ t s h.
+    ghost leads = { λ t s p h.
         let xs = s.courses.items in
         front t xs s.sound (rests_sorted xs t h.0 h.1) };
 
     ghost lasting = { λ t u s pt pu l st n. lasts s.courses.items t u pt pu l st n };
+
+    ghost loaded = { λ t s p st i r f e d. Laws.loaded t s.courses.items i r f e d };
 
     ghost certified = { λ s i r f e. Laws.certified s.courses.items (few s) s.sound i r f e };
 
@@ -35,31 +42,43 @@ impl Structure for SortedList {
 
     ghost bounded = { λ s. (few s, load_bounded s.courses.items (few s)) };
 
-    fn clear(&mut self) {
+    fn clear(&mut self)
+        ensures cleared { Cleared means self.new }
+        ensures empty { courses_of self.new ≡ [] }
+    {
         self.courses.clear();
         self.load = 0;
     }
 
-    fn enter(&mut self, course: Course, at: Stamp) -> Result<Numbers, Refusal> {
+    fn enter(&mut self, course: Course, at: Stamp) -> Result<Numbers, Refusal>
+        ensures entered { Entered means (time_of at) self.old self.new course result }
+        ensures puts { EntryPuts (time_of at) self.old self.new course result }
+    {
         check(course)?;
         if place_of(self.courses.as_slice(), course.number).is_some() {
             return Err(Refusal::AlreadyAboard);
         }
         let count = self.courses.len();
-        if count >= 64 {
+        if count >= MOST_VESSELS {
             return Err(Refusal::Full);
         }
         let place = self.put_in(course, at);
         Ok(numbers_from(place, count))
     }
 
-    fn leave(&mut self, number: u16, at: Stamp) -> Result<Numbers, Refusal> {
+    fn leave(&mut self, number: u16, at: Stamp) -> Result<Numbers, Refusal>
+        ensures left { Left means (time_of at) self.old self.new number result }
+        ensures takes { LeaveTakes self.old self.new number result }
+    {
         let place = self.place(number)?;
         self.take_out(place);
         Ok(numbers_from(place, self.courses.len()))
     }
 
-    fn steer(&mut self, course: Course, at: Stamp) -> Result<Numbers, Refusal> {
+    fn steer(&mut self, course: Course, at: Stamp) -> Result<Numbers, Refusal>
+        ensures steered { Steered means (time_of at) self.old self.new course result }
+        ensures moves { SteerMoves (time_of at) self.old self.new course result }
+    {
         check(course)?;
         let old = self.place(course.number)?;
         if keeps_place(self.courses.as_slice(), old, course, at) {
@@ -71,7 +90,10 @@ impl Structure for SortedList {
         Ok(numbers_from(old.min(new), old.max(new) + 1))
     }
 
-    fn mend(&mut self, certificate: usize, at: Stamp) -> Result<Numbers, Refusal> {
+    fn mend(&mut self, certificate: usize, at: Stamp) -> Result<Numbers, Refusal>
+        ensures mended { Mended means (time_of at) self.old self.new certificate result }
+        ensures swaps { MendSwaps self.old self.new certificate result }
+    {
         if !is_certificate_due(self.certificate(certificate), at) {
             return Err(Refusal::NotDue);
         }
@@ -79,10 +101,10 @@ impl Structure for SortedList {
         Ok(numbers_from(certificate, certificate + 2))
     }
 
-    fn certificate(&self, number: usize) -> Option<Pair> {
+    fn certificate(&self, number: usize) -> Option<(Course, Course)> {
         let rear = self.courses.get(number)?;
         let front = self.courses.get(number + 1)?;
-        Some(Pair::new(*rear, *front))
+        Some((*rear, *front))
     }
 
     fn course(&self, number: u16) -> Option<Course> {
@@ -94,7 +116,9 @@ impl Structure for SortedList {
         self.courses.len()
     }
 
-    fn load(&self) -> usize {
+    fn load(&self) -> usize
+        ensures { result ≡ fair.load (courses_of self.now) }
+    {
         self.load
     }
 

@@ -5,20 +5,20 @@ use Rattle.std.proofs.lemmas.Bool.{cases_lt, cases_Bool, both_ways}
 use Rattle.event_queue.proofs.Options.{none_some, some_same}
 use Rattle.fairway.specs.Times.{Time, Proper}
 use Rattle.fairway.specs.Behind.{behind}
-use Rattle.fairway.specs.Orders.{pair}
 use Rattle.fairway.specs.declared.course.Course.{Course}
-use Rattle.fairway.specs.declared.pair.Pair.{Pair}
 use Rattle.fairway.proofs.Sorting.{other}
 use Rattle.fairway.proofs.Standings.{not_due}
 use Rattle.kinetic.specs.Numbers.{among}
 use Rattle.tournament.specs.Places.{Sound}
 use Rattle.tournament.specs.Matches.{aboard, node_at, second_wins, winner, is_second, certificate_of, certificate_at, won_by_second, AllDrawn}
 use Rattle.tournament.specs.Standing.{Each, StandsAt, NoneDueAt}
-use Rattle.tournament.specs.Playing.{DrawnBut, PlayedAbove, Put}
+use Rattle.tournament.specs.Playing.{match_of}
+use Rattle.tournament.specs.Rounds.{DrawnBut, PlayedAbove, NamedAbove, Put}
 use Rattle.tournament.specs.NodesLemmas.{reach, winner_from, at_place}
 use Rattle.tournament.specs.Laws.{certificate_past}
 use Rattle.tournament.proofs.Taken.{apart_at}
 use Rattle.tournament.proofs.Paths.{certificate_again}
+use Rattle.tournament.proofs.Climbing.{again_from, place_match, match_low}
 
 -- ---- the two of one match are two vessels
 -- the first and the last place so many rounds below k
@@ -94,12 +94,12 @@ module _ (t : Time) (pr : Proper t) where
   sided true u v n e = e
   sided false u v n e = other t pr u v n e
 
-  played_pair : (a b : Option Course) (x y : Course) → ((u v : Course) → a ≡ Some u → b ≡ Some v → u.number ≢ v.number) → certificate_of (second_wins t a b) a b ≡ Some (pair x y) → behind t x y ≡ true
+  played_pair : (a b : Option Course) (x y : Course) → ((u v : Course) → a ≡ Some u → b ≡ Some v → u.number ≢ v.number) → certificate_of (second_wins t a b) a b ≡ Some (x, y) → behind t x y ≡ true
   played_pair None b x y n e = absurd (none_some e)
   played_pair (Some u) None x y n e = absurd (none_some e)
   played_pair (Some u) (Some v) x y n e =
-      let q : pair (cond (behind t u v) u v) (cond (behind t u v) v u) ≡ pair x y = some_same e in
-      subst (λ (z : Pair). behind t z.rear z.front ≡ true) q (sided (behind t u v) u v (n u v refl refl) refl)
+      let q = some_same e in
+      subst (λ (z : Course × Course). behind t z.0 z.1 ≡ true) q (sided (behind t u v) u v (n u v refl refl) refl)
 
   module _ (from : ℕ) (ns ns' : List (Option Course)) (numbers : List ℕ) (again : PlayedAbove t from ns ns' numbers) (long : length ns ≡ 127) (long' : length ns' ≡ 127) where
     -- a certificate whose number is not answered
@@ -122,7 +122,7 @@ module _ (t : Time) (pr : Proper t) where
       all_drawn j l = (again.matches j l).drawn
 
       -- each certificate is in order, or was there before
-      pub after : (i : ℕ) (x y : Course) → certificate_at ns' i ≡ Some (pair x y) → (behind t x y ≡ true) ⊎ (among i numbers ≡ false)
+      pub after : (i : ℕ) (x y : Course) → certificate_at ns' i ≡ Some (x, y) → (behind t x y ≡ true) ⊎ (among i numbers ≡ false)
       after i x y c =
           ⊎_elim
           (λ (p : i < 63).
@@ -160,7 +160,7 @@ module _ (t : Time) (pr : Proper t) where
         (λ (h : 63 ≤ i). certificate_past ns' i long' h ∙ sym (certificate_past ns i long h))
         (cases_lt i 63)
 
-    module _ (sound : Sound (aboard ns')) where
+    module _ (named : NamedAbove (63 + p) numbers) (sound : Sound (aboard ns')) where
       in_order : StandsAt t ns × NoneDueAt t ns → Each ns' (λ x y. behind t x y ≡ true)
       in_order s i x y c =
           ⊎_elim (λ b. b)
@@ -170,7 +170,7 @@ module _ (t : Time) (pr : Proper t) where
       pub put_is : Put t p o ns ns' numbers
       put_is =
           record {
-            places = put_places;
+            played = record { within = low; places = put_places; again = again_from t (63 + p) (match_of p) (set ns (63 + p) o) ns' numbers (place_match p) (match_low p low) again named; names = named (match_of p) (place_match p) };
             certificates = certificates;
             rests = λ s. ((λ i x y c. inl (in_order s i x y c)), (λ i x y c d. not_due t x y (in_order s i x y c) d));
           }

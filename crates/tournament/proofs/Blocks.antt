@@ -1,16 +1,14 @@
 -- The vessels beneath a node are those of a block of places.
-use Rattle.std.proofs.Common.{◌≡◌, ℕ, zero, suc, ◌+◌, ◌*◌, ◌<◌, ◌≤◌, List, ◌++◌, length, take, drop, None, Option, sym, refl, ap, ◌∙◌, inl, arith}
+use Rattle.std.proofs.Common.{◌≡◌, ℕ, zero, suc, ◌+◌, ◌*◌, ◌<◌, ◌≤◌, List, ◌++◌, length, take, drop, None, Option, sym, refl, ap, ◌∙◌, arith}
 use Rattle.std.proofs.lemmas.List.{drop-drop, drop_more, take_all, length-drop}
 use Rattle.std.proofs.Math.Seq.{take-add}
 use Rattle.std.proofs.lemmas.List.Elements.{filter_map-append}
 use Rattle.fairway.specs.declared.course.Course.{Course}
 use Rattle.tournament.specs.Places.{taken}
 use Rattle.tournament.specs.Loads.{beneath, AllBeneath}
-use Rattle.tournament.specs.Playing.{LoadsFall}
 use Rattle.tournament.specs.NodesLemmas.{reach}
 use Rattle.tournament.proofs.Again.{first_below, end_of, end_low}
 use Rattle.tournament.proofs.Beneath.{match_beneath, twice}
-use Rattle.tournament.proofs.Falls.{match_less, match_falls}
 
 first_next : (f k : ℕ) → first_below f (k + 1) ≡ first_below f k + twice f
 first_next zero k = refl
@@ -34,9 +32,3 @@ block ns h (suc f) k r c =
 
 pub all_beneath : AllBeneath
 all_beneath ns h = block ns h 6 0 (omega arith) (omega arith) ∙ ap taken (take_all 64 (drop 63 ns) (omega (arith, length-drop 63 ns)))
-
-pub loads_fall : LoadsFall
-loads_fall t i r f ns ns' numbers l drawn stands e d again = (
-  match_falls t ns ns' numbers (2 * i + 1) drawn again stands i l (again.above i (inl refl)) r f e d,
-  match_less t ns ns' numbers (2 * i + 1) drawn again stands,
-)

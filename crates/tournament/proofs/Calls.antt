@@ -1,9 +1,11 @@
 -- What enter, leave and steer promise, for the places of a tournament.
-use Rattle.std.proofs.Common.{◌≡◌, ℕ, ◌<◌, true, false, List, length, get_or, set, is_some, Some, None, Option, sym, refl, ap, subst, ◌∙◌}
+use Rattle.std.proofs.Common.{◌≡◌, ℕ, ◌+◌, ◌<◌, true, false, List, length, drop, get_or, set, is_some, Some, None, Option, sym, refl, ap, subst, ◌∙◌}
 use Rattle.std.proofs.lemmas.Bool.{both_ways}
+use Rattle.std.proofs.lemmas.List.{get_or-drop}
 use Rattle.fairway.specs.Rosters.{course_of}
 use Rattle.fairway.specs.declared.course.Course.{Course}
 use Rattle.fairway.proofs.Rosters.{of_found}
+use Rattle.tournament.specs.Matches.{node_at}
 use Rattle.tournament.specs.Places.{taken, Fits, Sound, PlaceOf, FreePlace}
 use Rattle.tournament.proofs.Taken.{Numbered, Alone, sound_set, roster_at, roster_other, alone_free, alone_held}
 
@@ -11,6 +13,10 @@ use Rattle.tournament.proofs.Taken.{Numbered, Alone, sound_set, roster_at, roste
 pub absent : (xs ys : List (Option Course)) (n : ℕ) (o : Option ℕ) → xs ≡ ys → PlaceOf xs n o → is_some o ≡ false → course_of (taken ys) n ≡ None
 absent xs ys n None e p q = ap (λ l. course_of (taken l) n) (sym e) ∙ p
 absent xs ys n (Some i) e p q = absurd (both_ways true q refl)
+
+-- ---- the course in the place of a vessel
+pub seated : (ns : List (Option Course)) (n p : ℕ) → PlaceOf (drop 63 ns) n (Some p) → (c : Course) × (node_at ns (63 + p) ≡ Some c) × (c.number ≡ n)
+seated ns n p h = (h.1.0, sym (get_or-drop 63 ns p None) ∙ h.1.1, (of_found (taken (drop 63 ns)) n h.1.0 h.1.2).1)
 
 -- ---- the place p may be written for the vessel n
 pub record Open (xs : List (Option Course)) (n p : ℕ) : Type 0 where

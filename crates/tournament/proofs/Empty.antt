@@ -43,7 +43,7 @@ cleared nodes s e =
       roster = λ n. roster n (nodes s) e;
       certificates = λ i. ap (λ ns. certificate_at ns i) e ∙ no_certificate i;
       load = ap load e ∙ no_load;
-      stands = λ t i r f c. absurd (none_some (sym (no_certificate i) ∙ sym (ap (λ ns. certificate_at ns i) e) ∙ c));
+      stands = λ t pr i r f c. absurd (none_some (sym (no_certificate i) ∙ sym (ap (λ ns. certificate_at ns i) e) ∙ c));
     }
   where
     roster : (n : ℕ) (ns : List (Option Course)) → ns ≡ empty → course_of (aboard ns) n ≡ None

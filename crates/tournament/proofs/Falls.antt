@@ -9,17 +9,17 @@ use Rattle.event_queue.proofs.Options.{none_some, some_same}
 use Rattle.fairway.specs.Times.{Time}
 use Rattle.fairway.specs.Courses.{place, faster, Due}
 use Rattle.fairway.specs.Behind.{behind}
-use Rattle.fairway.specs.Orders.{Holds, pair, faster_than}
+use Rattle.fairway.specs.Orders.{Holds, faster_than}
 use Rattle.fairway.specs.Standing.{InOrderOrDue}
 use Rattle.fairway.specs.declared.course.Course.{Course}
-use Rattle.fairway.specs.declared.pair.Pair.{Pair}
-use Rattle.fairway.proofs.Laws.{is_test}
+use Rattle.fairway.proofs.Laws.{lesser_behind, level_slower}
+use Rattle.fairway.proofs.Standings.{behind_place, due_back}
 use Rattle.kinetic.specs.Numbers.{among}
 use Rattle.tournament.specs.Places.{taken}
 use Rattle.tournament.specs.Matches.{node_at, second_wins, winner, certificate_of, certificate_at, won_by_second, AllDrawn}
 use Rattle.tournament.specs.Standing.{StandsAt}
 use Rattle.tournament.specs.Loads.{beneath, faster_than_winner, match_load, load}
-use Rattle.tournament.specs.Playing.{PlayedAbove}
+use Rattle.tournament.specs.Rounds.{PlayedAbove}
 use Rattle.tournament.specs.NodesLemmas.{reach, below, at_place, descend_beneath}
 use Rattle.tournament.specs.LoadsLemmas.{sum_le}
 
@@ -72,12 +72,12 @@ faster_falls (v ∷ vs) n o h (inr k) = omega (arith, count_more n v vs, count_m
 
 -- ---- who is behind, and who is not
 is_behind : (t : Time) (x y : Course) → behind t x y ≡ true → (place t x ≤ℤ place t y) × (place t x ≡ place t y → x.speed ≤ℤ y.speed)
-is_behind t x y h = let b = (is_test t x y).0 h in (omega (arith, ints), (λ e. omega (arith, ints)))
+is_behind t x y h = (behind_place t x y h, (λ e. let f = level_slower t x y h e in grind (arith, ints)))
 
 not_behind : (t : Time) (x y : Course) → behind t x y ≡ false → (place t y ≤ℤ place t x) × (place t x ≡ place t y → y.speed ≤ℤ x.speed)
 not_behind t x y h = (
-  by_lt_z (place t x) (place t y) (λ l. absurd (both_ways (behind t x y) h ((is_test t x y).1 (inl l)))) (λ l. l),
-  (λ e. by_lt_z x.speed y.speed (λ l. absurd (both_ways (behind t x y) h ((is_test t x y).1 (inr (e, inl l))))) (λ l. l)),
+  by_lt_z (place t x) (place t y) (λ l. absurd (both_ways (behind t x y) h (lesser_behind t x y l))) (λ l. l),
+  (λ e. by_lt_z x.speed y.speed (λ l. absurd (both_ways (behind t x y) h (due_back t y x (sym e, l)))) (λ l. l)),
 )
 
 -- ---- a mend
@@ -116,7 +116,7 @@ module _ (t : Time) where
       (λ b. p)
 
   abbrev Ordered : Bool → Option Course → Option Course → Type 0
-  Ordered r a b = (x y : Course) → certificate_of r a b ≡ Some (pair x y) → InOrderOrDue t x y
+  Ordered r a b = (x y : Course) → certificate_of r a b ≡ Some (x, y) → InOrderOrDue t x y
 
   -- a match played again between two that are stronger
   stronger_play : (r : Bool) (a b a' b' : Option Course) → Stronger t a' a → Stronger t b' b → Ordered r a b → Stronger t (winner (second_wins t a' b') a' b') (winner r a b)
@@ -142,14 +142,14 @@ module _ (t : Time) where
   abbrev FasterWinner : Option Course → Option Course → Type 0
   FasterWinner n o = (v : Course) × (w : Course) × (n ≡ Some v) × (o ≡ Some w) × (w.speed <ℤ v.speed)
 
-  faster_play : (r : Bool) (a b a' b' : Option Course) (x y : Course) → Stronger t a' a → Stronger t b' b → certificate_of r a b ≡ Some (pair x y) → Due t x y → FasterWinner (winner (second_wins t a' b') a' b') (winner r a b)
+  faster_play : (r : Bool) (a b a' b' : Option Course) (x y : Course) → Stronger t a' a → Stronger t b' b → certificate_of r a b ≡ Some (x, y) → Due t x y → FasterWinner (winner (second_wins t a' b') a' b') (winner r a b)
   faster_play r None b a' b' x y p q e d = absurd (none_some e)
   faster_play r (Some u) None a' b' x y p q e d = absurd (none_some e)
   faster_play r (Some u) (Some v) None b' x y p q e d = absurd p
   faster_play r (Some u) (Some v) (Some u') None x y p q e d = absurd q
   faster_play r (Some u) (Some v) (Some u') (Some v') x y p q e d =
-      let s : pair (cond r u v) (cond r v u) ≡ pair x y = some_same e in
-      (cond (behind t u' v') v' u', cond r v u, refl, refl, faster_two u v u' v' r p q (subst (λ (z : Pair). Due t z.rear z.front) (sym s) d))
+      let s = some_same e in
+      (cond (behind t u' v') v' u', cond r v u, refl, refl, faster_two u v u' v' r p q (subst (λ (z : Course × Course). Due t z.0 z.1) (sym s) d))
 
   than_less : (n o : Option Course) (vs : List Course) → Stronger t n o → faster_than_winner n vs ≤ faster_than_winner o vs
   than_less None None vs s = omega arith
@@ -191,13 +191,20 @@ module _ (t : Time) where
         (λ (l : 63 ≤ k). subst (λ z. Stronger t z (node_at ns k)) (sym (place_same k l)) (stronger_same (node_at ns k)))
         (cases_lt k 63)
 
+    -- a match whose number is not answered has the load that it had
+    pub match_same : (i : ℕ) → among i numbers ≡ false → match_load ns' i ≡ match_load ns i
+    match_same i z =
+        let w : node_at ns' i ≡ node_at ns i =
+        ⊎_elim (λ (l : i < 63). (again.matches i l).same_winner z) (λ (l : 63 ≤ i). place_same i l) (cases_lt i 63) in
+        ap (λ l. faster_than_winner (node_at ns' i) l) (beneath_same 6 i (omega arith)) ∙ ap (λ o. faster_than_winner o (beneath 6 ns i)) w
+
     -- no match has more faster vessels beneath it
     pub match_less : (i : ℕ) → match_load ns' i ≤ match_load ns i
     match_less i =
         subst (λ l. faster_than_winner (node_at ns' i) l ≤ match_load ns i) (sym (beneath_same 6 i (omega arith))) (than_less (node_at ns' i) (node_at ns i) (beneath 6 ns i) (stronger_at 6 i (omega arith)))
 
     -- the mended one has fewer
-    pub match_falls : (i : ℕ) → i < 63 → among i numbers ≡ true → (x y : Course) → certificate_at ns i ≡ Some (pair x y) → Due t x y → match_load ns' i < match_load ns i
+    pub match_falls : (i : ℕ) → i < 63 → among i numbers ≡ true → (x y : Course) → certificate_at ns i ≡ Some (x, y) → Due t x y → match_load ns' i < match_load ns i
     match_falls i l y x f e d =
         let n = again.matches i l in
         let a = node_at ns (2 * i + 1) in
@@ -213,6 +220,6 @@ module _ (t : Time) where
         (subst (λ z. faster_than w.0 (beneath 6 ns' i) < faster_than_winner z (beneath 6 ns i)) (sym q)
         (subst (λ l. faster_than w.0 (beneath 6 ns' i) < faster_than w.1 l) (beneath_same 6 i (omega arith)) s))
 
-    pub falls : (i : ℕ) → i < 63 → among i numbers ≡ true → (x y : Course) → certificate_at ns i ≡ Some (pair x y) → Due t x y → load ns' < load ns
+    pub falls : (i : ℕ) → i < 63 → among i numbers ≡ true → (x y : Course) → certificate_at ns i ≡ Some (x, y) → Due t x y → load ns' < load ns
     unfolding load
     falls i l y x f e d = sum_lt 63 0 (match_load ns') (match_load ns) i (omega arith) l (λ j _. match_less j) (match_falls i l y x f e d)

@@ -1,4 +1,5 @@
 pub mod Paths
+pub mod Climbing
 pub mod Taken
 pub mod Beneath
 pub mod Again

@@ -5,12 +5,12 @@ use Rattle.std.proofs.lemmas.Int.{ints}
 use Rattle.std.proofs.lemmas.List.{drop-set-lt}
 use Rattle.std.proofs.lemmas.Bool.{cases_eq, cases_Bool, eq-eqb, eqb-true, ne_eqb, and_parts, and_from, true≢false}
 use Rattle.fairway.specs.Times.{Time}
-use Rattle.fairway.specs.Orders.{pair}
 use Rattle.fairway.specs.declared.course.Course.{Course}
 use Rattle.fairway.proofs.Laws.{eq_course}
 use Rattle.kinetic.specs.Numbers.{among}
 use Rattle.tournament.specs.Matches.{node_at, is_same, second_wins, winner, is_second, certificate_of}
-use Rattle.tournament.specs.Playing.{Played, PlayedAt, OneOf, PlayedBelow}
+use Rattle.tournament.specs.Playing.{OneOf}
+use Rattle.tournament.specs.Rounds.{Played, PlayedAt, PlayedBelow}
 
 -- ---- the side that won, seen from the winner
 same_yes : (x y : Course) → is_same x y ≡ true → x ≡ y
@@ -38,11 +38,11 @@ winner_again false (Some x) (Some y) =
 pub certificate_again : (s : Bool) (a b : Option Course) → certificate_of (is_second (winner s a b) b) a b ≡ certificate_of s a b
 certificate_again s None b = refl
 certificate_again s (Some x) None = refl
-certificate_again true (Some x) (Some y) = ap (λ r. Some (pair (cond r x y) (cond r y x))) (same_self y)
+certificate_again true (Some x) (Some y) = ap (λ r. Some (cond r x y, cond r y x)) (same_self y)
 certificate_again false (Some x) (Some y) =
     ⊎_elim
-    (λ e. ap (λ r. Some (pair (cond r x y) (cond r y x))) e ∙ ap (λ z. Some (pair z y)) (same_yes x y e) ∙ ap (λ z. Some (pair y z)) (sym (same_yes x y e)))
-    (λ e. ap (λ r. Some (pair (cond r x y) (cond r y x))) e)
+    (λ e. ap (λ r. Some (cond r x y, cond r y x)) e ∙ ap (λ z. Some (z, y)) (same_yes x y e) ∙ ap (λ z. Some (y, z)) (sym (same_yes x y e)))
+    (λ e. ap (λ r. Some (cond r x y, cond r y x)) e)
     (cases_Bool (is_same x y))
 
 -- ---- numbers, added one by one
@@ -50,13 +50,20 @@ or_right : (a : Bool) → (a || true) ≡ true
 or_right true = refl
 or_right false = refl
 
-among_last : (i : ℕ) (ns : List ℕ) → among i (ns ++ (i ∷ [])) ≡ true
+pub among_last : (i : ℕ) (ns : List ℕ) → among i (ns ++ (i ∷ [])) ≡ true
 among_last i [] = ap (λ b. b || false) (eq-eqb i i refl)
 among_last i (x ∷ xs) = ap (λ b. eqb x i || b) (among_last i xs) ∙ or_right (eqb x i)
 
-among_other : (i n : ℕ) (ns : List ℕ) → (i ≡ n → ⊥) → among i (ns ++ (n ∷ [])) ≡ among i ns
+pub among_other : (i n : ℕ) (ns : List ℕ) → (i ≡ n → ⊥) → among i (ns ++ (n ∷ [])) ≡ among i ns
 among_other i n [] h = ap (λ b. b || false) (ne_eqb n i (λ q. h (sym q)))
 among_other i n (x ∷ xs) h = ap (λ b. eqb x i || b) (among_other i n xs h)
+
+-- one match is above a node
+pub same_match : (k i j : ℕ) → OneOf k j → OneOf k i → i ≡ j
+same_match k i j (inl x) (inl y) = omega arith
+same_match k i j (inl x) (inr y) = omega arith
+same_match k i j (inr x) (inl y) = omega arith
+same_match k i j (inr x) (inr y) = omega arith
 
 -- ---- one match
 module _ (t : Time) where
@@ -72,7 +79,7 @@ module _ (t : Time) where
         played = λ _. p;
       }
 
-  -- the same of equal parts
+  -- a match of which each part is equal to one that is known
   moved : {w a b : Option Course} {n m : Bool} {w' a' b' u c d : Option Course} → m ≡ n → u ≡ w' → c ≡ a' → d ≡ b' → Played t n w a b w' a' b' → Played t m w a b u c d
   moved {w} {a} {b} {n} {m} {w'} {a'} {b'} {u} {c} {d} e q x y h =
       subst (λ z. Played t z w a b u c d) (sym e)
@@ -118,12 +125,6 @@ module _ (t : Time) where
               ⊎_elim
               (λ (q : i ≡ j). ap (λ z. among z numbers') q ∙ named_j)
               (λ (q : i ≡ j → ⊥).
-              other i q ∙ ⊎_elim (λ (z : k ≡ from). absurd (q (same_match k from i j z p h))) (λ g. g i h) m.above)
+              other i q ∙ ⊎_elim (λ (z : k ≡ from). absurd (q (same_match k i j p (subst (λ y. OneOf y i) (sym z) h)))) (λ g. g i h) m.above)
               (cases_eq i j));
         }
-      where
-        same_match : (k from i j : ℕ) → k ≡ from → OneOf k j → OneOf from i → i ≡ j
-        same_match k from i j e (inl x) (inl y) = omega arith
-        same_match k from i j e (inl x) (inr y) = omega arith
-        same_match k from i j e (inr x) (inl y) = omega arith
-        same_match k from i j e (inr x) (inr y) = omega arith

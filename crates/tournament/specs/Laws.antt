@@ -5,7 +5,6 @@ use Rattle.std.proofs.lemmas.Bool.{cases_lt}
 use Rattle.event_queue.proofs.Options.{none_some, some_same}
 use Rattle.fairway.specs.Times.{Time, Proper, ◌≤ᵗ◌}
 use Rattle.fairway.specs.Behind.{behind}
-use Rattle.fairway.specs.Orders.{pair}
 use Rattle.fairway.specs.Rosters.{course_of}
 use Rattle.fairway.specs.Standing.{NotLevelBefore}
 use Rattle.fairway.specs.declared.course.Course.{Course}
@@ -18,14 +17,16 @@ use Rattle.tournament.specs.Places.{Sound, Fits}
 use Rattle.tournament.specs.Matches.{aboard, node_at, certificate_of, certificate_at, won_by_second, AllDrawn}
 use Rattle.tournament.specs.Standing.{Each, StandsAt, NoneDueAt}
 use Rattle.tournament.specs.Means.{number_of}
-use Rattle.tournament.specs.NodesLemmas.{descend, climb, place_holds, length_taken}
+use Rattle.tournament.specs.NodesLemmas.{descend, place_holds, length_taken}
+use Rattle.tournament.specs.FinalLemmas.{climb}
 
 -- the two of a certificate are those of the match
-pub certificate_parts : (r : Bool) (a b : Option Course) (x y : Course) → certificate_of r a b ≡ Some (pair x y) → ((a ≡ Some x) ⊎ (b ≡ Some x)) × ((a ≡ Some y) ⊎ (b ≡ Some y))
+pub certificate_parts : (r : Bool) (a b : Option Course) (x y : Course) → certificate_of r a b ≡ Some (x, y) →
+    ((a ≡ Some x) ⊎ (b ≡ Some x)) × ((a ≡ Some y) ⊎ (b ≡ Some y))
 certificate_parts r None b x y e = absurd (none_some e)
 certificate_parts r (Some v) None x y e = absurd (none_some e)
-certificate_parts true (Some v) (Some w) x y e = let q = some_same e in (inl (ap (λ z. Some z.rear) q), inr (ap (λ z. Some z.front) q))
-certificate_parts false (Some v) (Some w) x y e = let q = some_same e in (inr (ap (λ z. Some z.rear) q), inl (ap (λ z. Some z.front) q))
+certificate_parts true (Some v) (Some w) x y e = let q = some_same e in (inl (ap (λ z. Some z.0) q), inr (ap (λ z. Some z.1) q))
+certificate_parts false (Some v) (Some w) x y e = let q = some_same e in (inr (ap (λ z. Some z.0) q), inl (ap (λ z. Some z.1) q))
 
 pub no_first : (r : Bool) (a b : Option Course) → a ≡ None → certificate_of r a b ≡ None
 no_first r None b e = refl
@@ -44,7 +45,7 @@ module _ (ns : List (Option Course)) where
   pub few : length ns ≡ 127 → length (aboard ns) ≤ 64
   few sized = omega (arith, length_taken (drop 63 ns), length-drop 63 ns)
 
-  pub within : length ns ≡ 127 → (i : ℕ) (r f : Course) → certificate_at ns i ≡ Some (pair r f) → i < 63
+  pub within : length ns ≡ 127 → (i : ℕ) (r f : Course) → certificate_at ns i ≡ Some (r, f) → i < 63
   within sized i r f e = ⊎_elim (λ (p : i < 63). p) (λ (p : 63 ≤ i). absurd (none_some (sym (certificate_past ns i sized p) ∙ e))) (cases_lt i 63)
 
   pub listed : Sound (aboard ns) → (n : ℕ) (c : Course) → course_of (aboard ns) n ≡ Some c → Aboard n c
@@ -57,17 +58,20 @@ module _ (ns : List (Option Course)) where
     held_at : (k : ℕ) (c : Course) → node_at ns k ≡ Some c → course_of (aboard ns) c.number ≡ Some c
     held_at k c e = found (aboard ns) c sound.apart (descend ns drawn 6 k c (omega arith) e)
 
-    pub certified : (i : ℕ) (r f : Course) → certificate_at ns i ≡ Some (pair r f) → (i < 64) × (course_of (aboard ns) r.number ≡ Some r) × (course_of (aboard ns) f.number ≡ Some f)
+    pub certified : (i : ℕ) (r f : Course) → certificate_at ns i ≡ Some (r, f) →
+        (i < 64) × (course_of (aboard ns) r.number ≡ Some r) × (course_of (aboard ns) f.number ≡ Some f)
     certified i r f e =
         let p = within sized i r f e in
         let q = certificate_parts (won_by_second ns i) (node_at ns (2 * i + 1)) (node_at ns (2 * i + 2)) r f e in
         (omega arith, ⊎_elim (held_at (2 * i + 1) r) (held_at (2 * i + 2) r) q.0, ⊎_elim (held_at (2 * i + 1) f) (held_at (2 * i + 2) f) q.1)
 
-    none_of : (o : Option Course) (xs : List Course) (n : ℕ) → course_of xs n ≡ o → ((d : Course) → course_of xs n ≡ Some d → ⊥) → course_of xs n ≡ None
+    none_of : (o : Option Course) (xs : List Course) (n : ℕ) → course_of xs n ≡ o →
+        ((d : Course) → course_of xs n ≡ Some d → ⊥) → course_of xs n ≡ None
     none_of None xs n e h = e
     none_of (Some d) xs n e h = absurd (h d e)
 
-    front_of : (t : Time) → Each ns (λ r f. behind t r f ≡ true) → (o : Option Course) → node_at ns 0 ≡ o → Front t (course_of (aboard ns)) (number_of o)
+    front_of : (t : Time) → Each ns (λ r f. behind t r f ≡ true) → (o : Option Course) → node_at ns 0 ≡ o →
+        Front t (course_of (aboard ns)) (number_of o)
     front_of t good None e = λ n. none_of (course_of (aboard ns) n) (aboard ns) n refl (λ d h.
         let k = place_holds ns d sized (of_found (aboard ns) n d h).0 in
         let w = climb t ns drawn good k.0 k.0 d (omega arith) k.1 k.3 in

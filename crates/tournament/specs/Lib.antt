@@ -3,8 +3,11 @@ pub mod Matches
 pub mod Standing
 pub mod Loads
 pub mod Playing
+pub mod Rounds
 pub mod Means
 pub mod Questions
 pub mod NodesLemmas
+pub mod FinalLemmas
 pub mod LoadsLemmas
 pub mod Laws
+pub mod LoadedLemmas

@@ -9,7 +9,8 @@ use Rattle.tournament.specs.Matches.{node_at}
 use Rattle.tournament.specs.Loads.{beneath, faster_than_winner, match_load, load}
 
 -- sums over a range, term by term
-pub sum_le : (n a : ℕ) (g h : ℕ → ℕ) → ((i : ℕ) → i < a + n → g i ≤ h i) → sum_by g (range_with_len a n) ≤ sum_by h (range_with_len a n)
+pub sum_le : (n a : ℕ) (g h : ℕ → ℕ) → ((i : ℕ) → i < a + n → g i ≤ h i) →
+    sum_by g (range_with_len a n) ≤ sum_by h (range_with_len a n)
 sum_le zero a g h p = omega arith
 sum_le (suc n) a g h p =
     omega (arith, sum_by-cons g a (range_with_len (a + 1) n), sum_by-cons h a (range_with_len (a + 1) n), sum_le n (a + 1) g h (λ i q. p i (omega arith)), p a (omega arith))

@@ -4,9 +4,7 @@ use Rattle.std.specs.Prelude.{◌≡◌, ℕ, ◌+◌, ◌*◌, ◌<◌, Bool, f
 use Rattle.std.specs.Ordering.{int_eq}
 use Rattle.fairway.specs.Times.{Time}
 use Rattle.fairway.specs.Behind.{behind}
-use Rattle.fairway.specs.Orders.{pair}
 use Rattle.fairway.specs.declared.course.Course.{Course}
-use Rattle.fairway.specs.declared.pair.Pair.{Pair}
 use Rattle.tournament.specs.Places.{taken}
 
 -- the courses in the places
@@ -17,7 +15,7 @@ aboard nodes = taken (drop 63 nodes)
 abbrev pub node_at : List (Option Course) → ℕ → Option Course
 node_at nodes i = slice_index_or nodes i None
 
--- the same course
+-- whether x and y are one course
 unfoldable pub is_same : Course → Course → Bool
 is_same x y = x.number == y.number && (int_eq x.speed y.speed && int_eq x.base y.base)
 
@@ -42,25 +40,25 @@ is_second (Some w) None = false
 is_second (Some w) (Some y) = is_same w y
 
 -- the loser as rear and the winner as front; none in a match of one or of none
-abbrev pub certificate_of : Bool → Option Course → Option Course → Option Pair
+abbrev pub certificate_of : Bool → Option Course → Option Course → Option (Course × Course)
 certificate_of second_won None second = None
 certificate_of second_won (Some x) None = None
-certificate_of second_won (Some x) (Some y) = Some (pair (cond second_won x y) (cond second_won y x))
+certificate_of second_won (Some x) (Some y) = Some (cond second_won x y, cond second_won y x)
 
--- ---- the match i
+-- ---- the match of a number
 
--- whether its second won
+-- whether the second of the match i won
 abbrev pub won_by_second : List (Option Course) → ℕ → Bool
 won_by_second nodes i = is_second (node_at nodes i) (node_at nodes (2 * i + 2))
 
--- its certificate
-abbrev pub certificate_at : List (Option Course) → ℕ → Option Pair
+-- the certificate of the match i
+abbrev pub certificate_at : List (Option Course) → ℕ → Option (Course × Course)
 certificate_at nodes i = certificate_of (won_by_second nodes i) (node_at nodes (2 * i + 1)) (node_at nodes (2 * i + 2))
 
--- its node has the winner of its two
+-- the node of the match i has the winner of its two
 abbrev pub Drawn : List (Option Course) → ℕ → Type 0
 Drawn nodes i = node_at nodes i ≡ winner (won_by_second nodes i) (node_at nodes (2 * i + 1)) (node_at nodes (2 * i + 2))
 
--- and so has that of each match
+-- the node of each match has the winner of its two
 abbrev pub AllDrawn : List (Option Course) → Type 0
 AllDrawn nodes = (i : ℕ) → i < 63 → Drawn nodes i

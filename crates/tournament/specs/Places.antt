@@ -40,7 +40,8 @@ Sound-prop courses = Prim.hlevel (Apart-prop, fit_prop)
 -- the place of the vessel n, or none where it has none
 abbrev pub PlaceOf : List (Option Course) → ℕ → Option ℕ → Type 0
 PlaceOf places n None = course_of (taken places) n ≡ None
-PlaceOf places n (Some i) = (i < length places) × ((c : Course) × (slice_index_or places i None ≡ Some c) × (course_of (taken places) n ≡ Some c))
+PlaceOf places n (Some i) =
+    (i < length places) × ((c : Course) × (slice_index_or places i None ≡ Some c) × (course_of (taken places) n ≡ Some c))
 
 -- a free place, or none where all are taken
 abbrev pub FreePlace : List (Option Course) → Option ℕ → Type 0

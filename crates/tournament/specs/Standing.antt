@@ -2,14 +2,13 @@
 use Rattle.std.specs.Prelude.{◌≡◌, ℕ, List, Some, Option}
 use Rattle.fairway.specs.Times.{Time}
 use Rattle.fairway.specs.Courses.{Due}
-use Rattle.fairway.specs.Orders.{pair}
 use Rattle.fairway.specs.Standing.{InOrderOrDue}
 use Rattle.fairway.specs.declared.course.Course.{Course}
 use Rattle.tournament.specs.Matches.{certificate_at}
 
 -- P of each certificate
 abbrev pub Each : List (Option Course) → (Course → Course → Type 0) → Type 0
-Each nodes P = (i : ℕ) (rear front : Course) → certificate_at nodes i ≡ Some (pair rear front) → P rear front
+Each nodes P = (i : ℕ) (rear front : Course) → certificate_at nodes i ≡ Some (rear, front) → P rear front
 
 -- each certificate is in order or due
 abbrev pub StandsAt : Time → List (Option Course) → Type 0

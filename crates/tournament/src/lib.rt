@@ -1,3 +1,4 @@
+//! The kinetic tournament: matches between at most 64 vessels, whose winner is the foremost.
 #![tactic(auto)]
 
 mod changes;

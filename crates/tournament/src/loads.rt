@@ -2,6 +2,7 @@ ghost use Rattle.std.specs.Prelude.{◌≡◌, ◌+◌, ◌<◌, ◌≤◌, leng
 ghost use Rattle.tournament.specs.Loads as loads;
 ghost use Rattle.tournament.specs.Loads.{faster_beneath};
 
+use crate::tournament::MATCHES;
 use fairway::course::Course;
 
 // How many vessels in the places beneath a node are faster than a winner.
@@ -11,7 +12,7 @@ fn count_faster(nodes: &[Option<Course>], node: usize, winner: Course) -> usize
     ensures count { result ≡ faster_beneath nodes.now node winner }
     ensures few { result ≤ 64 }
 {
-    if node < 63 {
+    if node < MATCHES {
         return count_faster(nodes, 2 * node + 1, winner)
             + count_faster(nodes, 2 * node + 2, winner);
     }
@@ -36,5 +37,5 @@ pub(crate) fn load(nodes: &[Option<Course>]) -> usize
     requires { length nodes.now ≡ 127 }
     ensures { result ≡ loads.load nodes.now }
 {
-    (0..63).map(|number| match_load(nodes, number)).sum()
+    (0..MATCHES).map(|number| match_load(nodes, number)).sum()
 }

@@ -1,10 +1,10 @@
 ghost use Rattle.std.specs.Prelude.{◌≡◌, ◌+◌, ◌*◌, ◌<◌, length};
 ghost use Rattle.fairway.specs.Stamps.{time_of};
-ghost use Rattle.tournament.specs.Matches.{is_same, second_wins, winner, is_second, certificate_of, node_at};
-ghost use Rattle.tournament.specs.Playing.{DrawnBut, PlayedAbove};
+ghost use Rattle.tournament.specs.Matches.{is_same, second_wins, winner, is_second};
+ghost use Rattle.tournament.specs.Matches.{certificate_of, node_at};
+ghost use Rattle.tournament.specs.Rounds.{DrawnBut, PlayedAbove, NamedAbove};
 
 use fairway::course::Course;
-use fairway::pair::Pair;
 use fairway::stamp::Stamp;
 use kinetic::numbers::Numbers;
 
@@ -15,7 +15,7 @@ pub(crate) struct Match {
     pub(crate) second: Option<Course>,
 }
 
-// Whether the two are the same course.
+// Whether the two are one course.
 #[tactic(auto, unfolding(crate::specs::Matches::is_same))]
 fn is_same(one: Course, other: Course) -> bool
     ensures { result ≡ is_same one other }
@@ -68,15 +68,16 @@ impl Match {
         }
     }
 
-    // The certificate, given the winner: the loser as rear and the winner as front, where there are two.
-    pub(crate) fn certificate(self, winner: Option<Course>) -> Option<Pair>
+    // The certificate, given the winner: the loser as rear and the winner as front, where there are
+    // two.
+    pub(crate) fn certificate(self, winner: Option<Course>) -> Option<(Course, Course)>
         ensures { result ≡ certificate_of (is_second winner self.second) self.first self.second }
     {
         let (first, second) = (self.first?, self.second?);
         if self.is_won_by_second(winner) {
-            Some(Pair::new(first, second))
+            Some((first, second))
         } else {
-            Some(Pair::new(second, first))
+            Some((second, first))
         }
     }
 }
@@ -86,7 +87,8 @@ pub(crate) fn play_above(nodes: &mut [Option<Course>], from: usize, at: Stamp) -
     requires sized { length nodes.old ≡ 127 }
     requires within { from < 127 }
     requires drawn { DrawnBut from nodes.old }
-    ensures { PlayedAbove (time_of at) from nodes.old nodes.new result }
+    ensures played { PlayedAbove (time_of at) from nodes.old nodes.new result }
+    ensures named { NamedAbove from result }
 {
     let mut numbers = Numbers::new();
     let mut node = from;

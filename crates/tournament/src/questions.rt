@@ -2,7 +2,7 @@ ghost use Rattle.std.specs.Prelude.{◌≡◌, drop, length};
 ghost use Rattle.tournament.specs.Questions.{Placed};
 
 use crate::places::place_of;
-use crate::tournament::Tournament;
+use crate::tournament::{MATCHES, Tournament};
 use fairway::course::Course;
 use kinetic::refusal::Refusal;
 
@@ -12,7 +12,7 @@ impl Tournament {
         ensures value { result.now ≡ drop 63 self.now.nodes }
         ensures many { length result.now ≡ 64 }
     {
-        &self.nodes[63..]
+        &self.nodes[MATCHES..]
     }
 
     // The place of a vessel, or why a question on it is refused.

@@ -1,10 +1,10 @@
+//! Examples of the tournament, by itself and side by side with the sorted list.
 #![tactic(auto)]
 
 #[cfg(test)]
 mod tests {
     use fairway::course::Course;
     use fairway::example::three_vessels;
-    use fairway::pair::Pair;
     use fairway::stamp::Stamp;
     use kinetic::numbers::Numbers;
     use kinetic::refusal::Refusal;
@@ -128,11 +128,11 @@ mod tests {
         assert_eq!(rt; tournament.load(), 11);
         assert_eq!(rt;
             tournament.certificate(31),
-            Some(Pair::new(vessel(1, 3, 0), vessel(2, 2, 6)))
+            Some((vessel(1, 3, 0), vessel(2, 2, 6)))
         );
         assert_eq!(rt;
             tournament.certificate(15),
-            Some(Pair::new(vessel(2, 2, 6), vessel(5, 1, 12)))
+            Some((vessel(2, 2, 6), vessel(5, 1, 12)))
         );
         assert_eq!(rt; first_due(&tournament, second(5)), None);
         assert_eq!(rt; first_due(&tournament, second(6)), Some(15));
@@ -145,7 +145,8 @@ mod tests {
         Ok(())
     }
 
-    // A change names the matches above one node, from below up to the final, and so does a mend.
+    // A change of a place plays the match of that place and those above it, from below up to the final, and a mend its
+    // match and those above it; the load falls by what they counted.
     #[test]
     fn a_path_is_named(rt: HostRuntime) -> Result<(), Fail> {
         let mut tournament = Tournament::new();
@@ -155,8 +156,15 @@ mod tests {
         assert!(rt; named.as_slice() == [31, 15, 7, 3, 1, 0].as_slice());
         let named = tournament.enter(vessel(5, 1, 12), second(0))?;
         assert!(rt; named.as_slice() == [32, 15, 7, 3, 1, 0].as_slice());
+        assert_eq!(rt; tournament.load(), 11);
         let named = tournament.mend(15, second(6))?;
         assert!(rt; named.as_slice() == [15, 7, 3, 1, 0].as_slice());
+        assert_eq!(rt; tournament.load(), 6);
+        assert_eq!(rt; tournament.foremost(), Some(2));
+        let named = tournament.mend(31, second(6))?;
+        assert!(rt; named.as_slice() == [31, 15, 7, 3, 1, 0].as_slice());
+        assert_eq!(rt; tournament.load(), 0);
+        assert_eq!(rt; tournament.foremost(), Some(1));
         let named = tournament.steer(vessel(5, 1, 12), second(6))?;
         assert!(rt; named.as_slice() == [32, 15, 7, 3, 1, 0].as_slice());
         let named = tournament.leave(5, second(6))?;

@@ -2,7 +2,8 @@
 use Rattle.std.proofs.Common.{◌≡◌, ℕ, ◌+◌, ◌<◌, ◌≤◌, true, false, List, [], ◌∷◌, ◌++◌, length, take, Some, None, Err, Option, Result, nat_le, sym, refl, ap, ◌∙◌, subst, arith}
 use Rattle.std.proofs.lemmas.Bool.Decides.{nat_tests}
 use Rattle.event_queue.specs.Queues as queues
-use Rattle.fairway.specs.declared.stamp.Stamp.{Stamp}
+use Rattle.fairway.specs.Stamps.{time_of}
+use Rattle.fairway.specs.StampsLemmas.{proper}
 use Rattle.sorted_list.specs.Questions.{means, courses_of}
 use Rattle.sorted_list.specs.declared.list.SortedList.{SortedList}
 use Rattle.lines.specs.Lines.{order_line, from_front}
@@ -16,11 +17,12 @@ use Rattle.board.specs.History.AllHappened.{next}
 use Rattle.board.specs.History.Past.{then}
 use Rattle.board.specs.Outcomes.{rows_event}
 use Rattle.board.specs.Reckoning.{refusal_by_book}
+use Rattle.board.specs.Tickets.{Ticket}
 use Rattle.board.specs.declared.board.Board.{Board}
 use Rattle.board.specs.declared.call.Call.{Call}
 use Rattle.board.specs.declared.call.Outcome.TheVariants.{Accepted}
 use Rattle.board.specs.declared.refusal.Refusal.{Refusal}
-use Rattle.board.proofs.Claims.{as_listed, capacity_kept}
+use Rattle.board.proofs.Claims.{as_listed, by_insertion, capacity_kept}
 use Rattle.board.proofs.Pasts.{right_of}
 use Rattle.trace_replay.specs.ByBook.{Later, told, told_call, told_line, told_record, told_steps, line_by_book, stopped}
 use Rattle.trace_replay.specs.Replays.{Midway, Leads, line_of}
@@ -28,12 +30,12 @@ use Rattle.trace_replay.specs.Replays.Leads.{over, end, call, line, refused, ful
 use Rattle.trace_replay.specs.declared.fault.Cause.TheVariants as cause
 use Rattle.trace_replay.specs.declared.fault.Fault.{Fault}
 
-module _ {Q : Type 0} (n : queues.Meaning Q Stamp) where
+module _ {Q : Type 0} (n : queues.Meaning Q Ticket) where
   -- the board's line is the book's
   lines_agree : (b : Board SortedList Q) (log : Log) → AsListed n b log → line_of b ≡ line_by_book (book log)
   lines_agree b log a =
       ap (λ c. order_line c (from_front (courses_of b.structure))) a.booked.clock
-      ∙ ap (λ xs. order_line (book log).clock (from_front xs)) a.in_order
+      ∙ ap (λ xs. order_line (book log).clock (from_front xs)) (by_insertion (time_of (book log).clock) (proper (book log).clock) (book log).roster (courses_of b.structure) a.booked.apart a.in_order)
 
   module _ (size capacity lent : ℕ) where
     refused_alike : (b : Board SortedList Q) (log : Log) (c : Call) (l : ℕ) (r : Option Refusal) → Past means n b log → n.capacity b.queue ≡ capacity → l ≡ lent → refusal means n b c l ≡ r → refusal_by_book capacity lent (book log) c ≡ r

@@ -3,7 +3,6 @@ use Rattle.std.proofs.Common.{◌≡◌, ℕ, List, [], ◌++◌, length, drop, 
 use Rattle.std.proofs.lemmas.Bool.{false≢true}
 use Rattle.std.specs.Result.{IsErrAnd}
 use Rattle.event_queue.specs.Queues as queues
-use Rattle.fairway.specs.declared.stamp.Stamp.{Stamp}
 use Rattle.sorted_list.specs.Questions.{means}
 use Rattle.sorted_list.specs.declared.list.SortedList.{SortedList}
 use Rattle.trace.specs.Layout.{read_header}
@@ -12,10 +11,11 @@ use Rattle.trace.specs.declared.fault.Fault.{Fault as TraceFault}
 use Rattle.trace.specs.declared.fault.Stop.{Stop}
 use Rattle.board.specs.Books.{start}
 use Rattle.board.specs.Claims.{AsListed}
-use Rattle.board.specs.History.{Past, Throughout}
+use Rattle.board.specs.History.{Past}
 use Rattle.board.specs.History.AllHappened.{nothing}
 use Rattle.board.specs.History.Past.{opened}
 use Rattle.board.specs.Outcomes.{Opened}
+use Rattle.board.specs.Tickets.{Ticket}
 use Rattle.board.specs.declared.board.Board.{Board}
 use Rattle.board.specs.declared.call.Row.{Row}
 use Rattle.board.proofs.Claims.{as_listed}
@@ -50,7 +50,7 @@ pub handed_on : {X E : Type 0} {f : E} (r : Result X E) → IsErrAnd r (λ e. e 
 handed_on (Err e) h = ap Err h
 handed_on (Ok x) h = absurd h
 
-module _ {Q : Type 0} (n : queues.Meaning Q Stamp) (trace : List ℕ) (b open' b' : Board SortedList Q) (rows rows' : List Row) (page page' : List ℕ) (answer : Result ℕ Fault) (steps : List Step)
+module _ {Q : Type 0} (n : queues.Meaning Q Ticket) (trace : List ℕ) (b open' b' : Board SortedList Q) (rows rows' : List Row) (page page' : List ℕ) (answer : Result ℕ Fault) (steps : List Step)
     (was : Opened means n b.queue open') (e : Ended n (length page) (record { board = open'; log = []; rows = rows; output = [] }) steps page b' rows' page' answer) where
   finish : (header : Result (List ℕ) TraceFault) → begun header ≡ Ok steps → Replays n (length page) header b b' rows rows' page page' answer
   finish (Err f) h = absurd (not_begun f h)
@@ -65,7 +65,8 @@ module _ {Q : Type 0} (n : queues.Meaning Q Stamp) (trace : List ℕ) (b open' b
         rows_are = e.rows_are;
         page_is = e.page_is;
         past = λ s. subst (λ z. Past means n z e.last.log) (sym e.board) (past_of means n b.queue open' e.last.board e.last.log s was happened);
-        listed = λ s. subst (λ z. Throughout means n (AsListed n) z e.last.log) (sym e.board) (throughout_of means n (AsListed n) (as_listed n) b.queue open' e.last.board e.last.log s was happened);
+        happened = happened;
+        listed = λ s. throughout_of means n (AsListed n) (as_listed n) b.queue open' e.last.board e.last.log s was happened;
       }
 
   pub replays : begun (read_header trace) ≡ Ok steps → Replays n (length page) (read_header trace) b b' rows rows' page page' answer

@@ -7,7 +7,6 @@ use Rattle.std.proofs.Math.ListN.{drop_of_length-le}
 use Rattle.std.proofs.Math.Seq.{take-append_seam, drop-append-add}
 use Rattle.event_queue.specs.Queues as queues
 use Rattle.event_queue.proofs.Options.{none_some}
-use Rattle.fairway.specs.declared.stamp.Stamp.{Stamp}
 use Rattle.sorted_list.specs.Questions.{means}
 use Rattle.sorted_list.specs.declared.list.SortedList.{SortedList}
 use Rattle.trace.specs.Walks.{Step}
@@ -17,6 +16,7 @@ use Rattle.trace.specs.declared.records.Record.TheVariants.{Enter, Leave, Steer,
 use Rattle.board.specs.Books.{Log, mends_of}
 use Rattle.board.specs.Outcomes.{Happened, rows_event}
 use Rattle.board.specs.Passings.{Written}
+use Rattle.board.specs.Tickets.{Ticket}
 use Rattle.board.specs.declared.board.Board.{Board}
 use Rattle.board.specs.declared.call.Call.{Call}
 use Rattle.board.specs.declared.call.Outcome.{Outcome}
@@ -39,7 +39,7 @@ blank = record { at = record { seconds = 0; numerator = 0; denominator_less_one 
 same_rows : (rows rows' : List Row) → Written 0 rows rows' → rows' ≡ rows
 same_rows rows rows' w = ext_get_or blank rows' rows w.size (λ k h. w.beyond k blank (omega arith))
 
-pub refused_done : {Q : Type 0} (n : queues.Meaning Q Stamp) (b b' : Board SortedList Q) (c : Call) (o : Outcome) (r : Refusal) (rows rows' : List Row) (written : ℕ) → o ≡ Refused r → Happened means n b (rows_event c o rows') b' → Written (mends_of o) rows rows' → CallDone n b b' c rows rows' written (Err cause.Refused)
+pub refused_done : {Q : Type 0} (n : queues.Meaning Q Ticket) (b b' : Board SortedList Q) (c : Call) (o : Outcome) (r : Refusal) (rows rows' : List Row) (written : ℕ) → o ≡ Refused r → Happened means n b (rows_event c o rows') b' → Written (mends_of o) rows rows' → CallDone n b b' c rows rows' written (Err cause.Refused)
 refused_done n b b' c o r rows rows' written e h w =
     let h' = subst (λ o. Happened means n b (rows_event c o rows') b') e h in
     let same = same_rows rows rows' (subst (λ o. Written (mends_of o) rows rows') e w) in
@@ -83,7 +83,7 @@ page_more output text page page' page'' w e h p =
     ap (λ z. drop z page') h ∙ ap (drop (length output + length text)) e ∙ drop-append-add output (drop (length output) page) (length text) ∙ drop_drop (length output) (length text) page ∙ ap (λ z. drop z page) (sym (length-append output text)) in
     p ∙ ap (λ z. z ++ (text ++ drop w page')) front ∙ ap (λ z. output ++ (text ++ z)) rest ∙ sym (append_assoc output text (drop (length (output ++ text)) page))
 
-module _ {Q : Type 0} (n : queues.Meaning Q Stamp) (size : ℕ) where
+module _ {Q : Type 0} (n : queues.Meaning Q Ticket) (size : ℕ) where
   -- the steps from the start led here, and so what the steps that are left lead to, they all lead to
   pub record Way (start : Midway Q) (steps : List Step) (page : List ℕ) (b : Board SortedList Q) (rows : List Row) (page' : List ℕ) (written : ℕ) (left : List Step) : Type 0 where
     pub log : Log

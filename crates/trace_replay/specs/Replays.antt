@@ -2,7 +2,6 @@
 use Rattle.std.specs.Prelude.{◌≡◌, ℕ, ◌+◌, ◌<◌, ◌≤◌, List, [], ◌∷◌, ◌++◌, length, drop, Some, Ok, Err, Result}
 use Rattle.event_queue.specs.Queues as queues
 use Rattle.fairway.specs.Instants.{stamp_of}
-use Rattle.fairway.specs.declared.stamp.Stamp.{Stamp}
 use Rattle.sorted_list.specs.Questions.{means, courses_of}
 use Rattle.sorted_list.specs.declared.list.SortedList.{SortedList}
 use Rattle.lines.specs.Lines.{order_line, from_front}
@@ -12,9 +11,10 @@ use Rattle.trace.specs.declared.records.Record.{Record}
 use Rattle.trace.specs.declared.records.Record.TheVariants.{Order, End}
 use Rattle.board.specs.Books.{Log}
 use Rattle.board.specs.Claims.{AsListed}
-use Rattle.board.specs.History.{Past, Throughout}
+use Rattle.board.specs.History.{Past, AllHappened, Throughout}
 use Rattle.board.specs.Outcomes.{Opened, Happened, rows_event}
 use Rattle.board.specs.Passings.{Written}
+use Rattle.board.specs.Tickets.{Ticket}
 use Rattle.board.specs.declared.board.Board.{Board}
 use Rattle.board.specs.declared.call.Call.{Call}
 use Rattle.board.specs.declared.call.Outcome.TheVariants.{Accepted, Refused}
@@ -36,7 +36,7 @@ pub record Midway (Q : Type 0) : Type 0 where
   pub rows : List Row
   pub output : List ℕ
 
-module _ {Q : Type 0} (n : queues.Meaning Q Stamp) (size : ℕ) where
+module _ {Q : Type 0} (n : queues.Meaning Q Ticket) (size : ℕ) where
   -- From s on, with a page of this size, the steps lead to s' and this answer.
   pub data Leads : Midway Q → List Step → Midway Q → Result ℕ Fault → Type 0 where
     -- no step is left
@@ -72,9 +72,11 @@ module _ {Q : Type 0} (n : queues.Meaning Q Stamp) (size : ℕ) where
     pub board : b' ≡ last.board
     pub rows_are : rows' ≡ last.rows
     pub page_is : page' ≡ last.output ++ drop (length last.output) page
-    -- over a sound queue the board has the events as its past, and the whole claim held at the opening and after each
+    -- the events of its log happened to the opened board, one after the other
+    pub happened : AllHappened means n opened last.log last.board
+    -- over a sound queue the board has them as its past, and the whole claim held at the opening and after each
     pub past : n.sound b.queue → Past means n b' last.log
-    pub listed : n.sound b.queue → Throughout means n (AsListed n) b' last.log
+    pub listed : n.sound b.queue → Throughout means n (AsListed n) happened
 
   -- a fault of the header leaves everything as it was
   abbrev pub Replays : Result (List ℕ) TraceFault → Board SortedList Q → Board SortedList Q → List Row → List Row → List ℕ → List ℕ → Result ℕ Fault → Type 0

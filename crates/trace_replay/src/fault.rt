@@ -5,19 +5,19 @@ ghost use Rattle.trace_replay.specs.declared.fault.Cause.TheVariants.{NoRoom};
 use lines::refusal::NoRoom;
 use trace::fault::Fault as TraceFault;
 
-// Why a replay stopped.
+/// Why a replay stopped.
 #[derive(Clone, Copy, PartialEq, Eq, Debug)]
 pub enum Cause {
-    // what is wrong with the trace
+    /// what is wrong with the trace: 13 to 17
     Trace(TraceFault),
-    // the board refused the record
+    /// the board refused the record: 18
     Refused,
-    // the line does not fit the page
+    /// the line does not fit the page: 19
     NoRoom,
 }
 
-// A replay that stopped: the cause, how many bytes of the page are written, and the place in the trace, 0 for the
-// header, where the record's kind byte stands or should stand.
+/// A replay that stopped: the cause, how many bytes of the page are written, and the place in the trace, 0 for the
+/// header, where the record's kind byte stands or should stand.
 #[derive(Clone, Copy, PartialEq, Eq, Debug)]
 pub struct Fault {
     pub cause: Cause,
@@ -25,7 +25,7 @@ pub struct Fault {
     pub place: usize,
 }
 
-// The cause's number in the table of refusals.
+/// The cause's number in the table of refusals.
 impl From<Cause> for u8 {
     ghost from_gives = { λ cause number. number ≡ cause_number cause };
 
@@ -38,8 +38,9 @@ impl From<Cause> for u8 {
     }
 }
 
+/// A line that does not fit stops the replay.
 impl From<NoRoom> for Cause {
-    ghost from_gives = { λ _ cause. cause ≡ NoRoom };
+    ghost from_gives = { λ refusal cause. cause ≡ NoRoom };
 
     fn from(_refusal: NoRoom) -> Cause {
         Cause::NoRoom

@@ -8,15 +8,15 @@ ghost use Rattle.trace_replay.specs.declared.fault.Cause.TheVariants.{Trace};
 use crate::fault::{Cause, Fault};
 use board::board::Board;
 use board::call::{Call, Outcome, Row};
+use board::tickets::Ticket;
 use event_queue::queue::Queue;
-use fairway::stamp::Stamp;
 use lines::order_lines::write_order_line;
 use sorted_list::list::SortedList;
 use trace::fault::Stop;
 use trace::reader::Step;
 use trace::records::Record;
 
-// The call that a record records, or none.
+/// The call that a record records, or none for an order line and the end record.
 pub fn call_of(record: Record) -> Option<Call>
     ensures { result ≡ call_of «record» }
 {
@@ -46,7 +46,7 @@ pub fn call_of(record: Record) -> Option<Call>
 }
 
 // Writes the order line of a board behind what is written of a page, and answers how much is written then.
-fn write_line<Q: Queue<Key = Stamp> + Drop>(
+fn write_line<Q: Queue<Key = Ticket> + Drop>(
     board: &Board<SortedList, Q>,
     page: &mut [u8],
     written: usize,
@@ -70,7 +70,7 @@ pub fn trace_fault(stop: Stop, written: usize) -> Fault
 }
 
 // Does a record, an advance with the rows from the first on, and answers how much of the page is written then.
-fn do_record<Q: Queue<Key = Stamp> + Drop>(
+fn do_record<Q: Queue<Key = Ticket> + Drop>(
     record: Record,
     board: &mut Board<SortedList, Q>,
     rows: &mut [Row],
@@ -78,7 +78,8 @@ fn do_record<Q: Queue<Key = Stamp> + Drop>(
     written: usize,
 ) -> Result<usize, Cause>
     requires { written ≤ length page.old }
-    ensures { RecordDone Q.Queue.means board.old board.new rows.old rows.new page.old page.new written result «record» (call_of «record») }
+    ensures { RecordDone Q.means board.old board.new rows.old rows.new page.old page.new written
+        result «record» (call_of «record») }
 {
     if let Some(call) = call_of(record) {
         return match board.perform(call, rows) {
@@ -93,7 +94,7 @@ fn do_record<Q: Queue<Key = Stamp> + Drop>(
 }
 
 // Makes a step of a walk through a trace, and answers how much of the page is written then, or why the replay stops.
-pub fn make_step<Q: Queue<Key = Stamp> + Drop>(
+pub fn make_step<Q: Queue<Key = Ticket> + Drop>(
     step: Step,
     board: &mut Board<SortedList, Q>,
     rows: &mut [Row],
@@ -101,7 +102,8 @@ pub fn make_step<Q: Queue<Key = Stamp> + Drop>(
     written: usize,
 ) -> Result<usize, Fault>
     requires { written ≤ length page.old }
-    ensures { StepDone Q.Queue.means board.old board.new rows.old rows.new page.old page.new written result step }
+    ensures { StepDone Q.means board.old board.new rows.old rows.new page.old page.new written
+        result step }
 {
     match step {
         Ok((place, record)) => {

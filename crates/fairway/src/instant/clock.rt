@@ -1,15 +1,15 @@
 ghost use Rattle.std.specs.Prelude.{◌≡◌};
 ghost use Rattle.fairway.specs.Times.{◌<ᵗ◌, ratio};
-ghost use Rattle.fairway.specs.Courses.{Decides};
+ghost use Rattle.std.specs.Bool.{Decides};
 ghost use Rattle.fairway.specs.Instants.{value, stamp_of, Made, SameInstant};
 
 use crate::euclid::greatest_common_divisor;
-use crate::instant::Instant;
+use crate::instant::{FINEST, Instant, LAST_SECOND};
 use crate::refusal::Refusal;
 use crate::stamp::Stamp;
 
 impl Instant {
-    // The clock's first instant.
+    /// The clock's first instant.
     pub fn start() -> Instant
         ensures { value result ≡ ratio 0 1 }
     {
@@ -20,16 +20,16 @@ impl Instant {
         }
     }
 
-    // The instant of so many seconds and a fraction, in lowest terms or not. Refused where the denominator
-    // is 0 or above 1,000, the numerator is not below it, or it is later than the clock's last second.
+    /// The instant of so many seconds and a fraction, in lowest terms or not. Refused with 7 where the denominator
+    /// is 0 or above 1,000, the numerator is not below it, or it is later than the clock's last second.
     #[tactic(auto, using(crate::proofs::Instants::divisor_pos))]
     pub fn new(seconds: u64, numerator: u16, denominator: u16) -> Result<Instant, Refusal>
         ensures { Made seconds numerator denominator result }
     {
-        if !(1..=1000).contains(&denominator) || numerator >= denominator {
+        if !(1..=FINEST).contains(&denominator) || numerator >= denominator {
             return Err(Refusal::NoSuchInstant);
         }
-        if (seconds, numerator) > (16_777_216, 0) {
+        if (seconds, numerator) > (LAST_SECOND, 0) {
             return Err(Refusal::NoSuchInstant);
         }
         let common = greatest_common_divisor(numerator, denominator);
@@ -40,30 +40,30 @@ impl Instant {
         })
     }
 
-    // The instant as a plain triple.
+    /// The instant as a plain triple.
     pub fn stamp(&self) -> Stamp
         ensures { result ≡ stamp_of self.now }
     {
         Stamp::from(*self)
     }
 
-    // Whether this instant is earlier.
+    /// Whether this instant is earlier.
     #[tactic(auto, using(crate::proofs::Instants::told_before))]
     pub fn is_before(&self, other: &Instant) -> bool
-        ensures { Decides (value self.now <ᵗ value other.now) result }
+        ensures { Decides result (value self.now <ᵗ value other.now) }
     {
         self < other
     }
 
-    // Whether this instant is later.
+    /// Whether this instant is later.
     #[tactic(auto, using(crate::proofs::Instants::told_after))]
     pub fn is_after(&self, other: &Instant) -> bool
-        ensures { Decides (value other.now <ᵗ value self.now) result }
+        ensures { Decides result (value other.now <ᵗ value self.now) }
     {
         self > other
     }
 
-    // Whether the two are the same instant.
+    /// Whether the two are the same instant.
     #[tactic(auto, using(crate::proofs::Instants::told_same))]
     pub fn is_same(&self, other: &Instant) -> bool
         ensures { SameInstant self.now other.now result }

@@ -1,4 +1,4 @@
-use Rattle.std.proofs.Common.{arith}
+use Rattle.std.proofs.Common.{sym, ap, ◌∙◌, subst, arith}
 use Rattle.event_queue.proofs.Laws.{dropped_only}
 use Rattle.event_queue.proofs.Clearing.{cleared_none, cleared_more, cleared_all}
 use Rattle.event_queue.proofs.clear.clear.Goals as goal
@@ -18,9 +18,10 @@ loop-ticket-preserved g c =
 pub returns : goal.returns
 returns g c =
     let m = g.Q.Queue.means in
+    let asked = c.capacity-ticket-end.ensures in
     let h = c.loop-ticket.invariant in
     record {
-      empty = λ s. cleared_all m (h.0 s) (omega (arith, c.capacity-ticket-end.ensures));
-      capacity = λ s. (h.0 s).capacity;
-      keeps = h.1;
+      empty = λ s. cleared_all m (h.0 (subst m.sound (sym asked.same) s)) (omega (arith, asked.value, ap m.capacity asked.same));
+      capacity = λ s. (h.0 (subst m.sound (sym asked.same) s)).capacity ∙ ap m.capacity asked.same;
+      keeps = subst (λ q. m.keeps q c.loop-ticket.queue) asked.same h.1;
     }

@@ -1,5 +1,6 @@
 use Rattle.std.proofs.Common.{◌≡◌, ℕ, ◌+◌, ◌<◌, List, length, get_or, refl, arith, rules}
 use Rattle.std.specs.List.{slice_range}
+use Rattle.std.proofs.lemmas.Bool.Decides.{not_from_Decides}
 use Rattle.std.proofs.lemmas.Grind.{common_steps}
 use Rattle.fairway.specs.Stamps.{time_of}
 use Rattle.fairway.specs.Courses.{Due}
@@ -22,7 +23,7 @@ returns-then-not-is_due c =
     let xs = c.args.courses.now in
     let i = c.args.place in
     let p = first_two xs c.unwrap_or.result.now i (grind (arith, common_steps)) in
-    (refl, λ r f. at_pair (NotDue (time_of c.args.at)) xs i nobody r f (λ h. rw (p.0, p.1) (rw c.new.ensures at (c.is_due.ensures.1 c.if-not-is_due.true))))
+    (refl, λ r f. at_pair (NotDue (time_of c.args.at)) xs i nobody r f (λ h. rw (p.0, p.1) (rw c.new.ensures at (not_from_Decides c.is_due.result c.is_due.ensures c.if-not-is_due.true))))
 
 pub returns : goal.returns
 returns c =

@@ -1,23 +1,30 @@
-use Rattle.std.proofs.Common.{[], ◌∷◌, ◌++◌, map, take, vec_items, sym, ap, ◌∙◌, subst, arith}
-use Rattle.std.proofs.lemmas.List.{map_push, take_more}
-use Rattle.call_sheet.specs.History.{LedTo}
-use Rattle.radio_watch.specs.Journal.{item_of, log_from}
-use Rattle.radio_watch.proofs.Journals.{log_push}
+use Rattle.std.proofs.Common.{◌≡◌, ◌≤◌, length, take, sym, ap, ◌∙◌, subst, arith}
+use Rattle.std.proofs.lemmas.List.{length-take, take_all}
+use Rattle.radio_watch.proofs.Journals.{KeptSoFar, kept_none, kept_more}
 use Rattle.radio_watch.proofs.journal.keep.Goals as goal
 
-pub loop-item-preserved : goal.loop-item-preserved
-loop-item-preserved g c =
-    let m = g.Q.Queue.means in
-    let xs = vec_items c.loop-item.journal in
-    let e = c.answer-entry.result in
-    let items = c.push_reserved.ensures.items in
-    let i = c.loop-item.item-index in (
-      omega arith,
-      omega arith,
-      ap (map item_of) items ∙ map_push item_of xs e ∙ ap (λ ys. ys ++ item_of e ∷ []) c.loop-item.invariant.2 ∙ ap (λ y. take i c.args.items.now ++ y ∷ []) c.answer-entry.ensures.item ∙ sym (take_more c.args.items.now i _ (omega arith)),
-      λ led.
-          let before = c.loop-item.invariant.3 led in (
-            subst (λ log. LedTo m log c.answer-entry.new.sheet.queue) (sym (ap (log_from []) items ∙ log_push [] xs e)) (c.answer-entry.ensures.history _ before.0),
-            c.answer-entry.ensures.capacity before.0.sound ∙ before.1,
-          ),
-    )
+pub loop-index-init : goal.loop-index-init
+loop-index-init g c = kept_none g.Q.Queue.means _ _ _ _
+
+pub loop-index-preserved : goal.loop-index-preserved
+loop-index-preserved g c =
+    let asked = take c.min-count.result c.args.items.now in
+    let long : length asked ≡ c.min-count.result = length-take c.min-count.result c.args.items.now ∙ omega arith in
+    let said = c.answer.ensures in
+    kept_more g.Q.Queue.means asked _ _ _ c.loop-index.invariant c.answer.result _ said.item c.loop-index-test.true (omega (arith, long)) (omega (arith, long)) said.history said.sound said.capacity said.keeps
+
+pub returns : goal.returns
+returns g c =
+    let asked = take c.min-count.result c.args.items.now in
+    let long : length asked ≡ c.min-count.result = length-take c.min-count.result c.args.items.now ∙ omega arith in
+    let index : c.loop-index.index ≡ c.min-count.result = omega (arith, long) in
+    let h = subst (λ i. KeptSoFar g.Q.Queue.means asked c.min-count.result c.args.journal.now c.args.sheet.now.queue i c.loop-index.journal c.loop-index.sheet.queue) index c.loop-index.invariant in
+    record {
+      count = c.min-count.ensures;
+      items = h.in_turn ∙ take_all c.min-count.result asked (omega (arith, long));
+      past = h.past;
+      history = h.history;
+      sound = h.sound;
+      capacity = h.capacity;
+      keeps = h.keeps;
+    }

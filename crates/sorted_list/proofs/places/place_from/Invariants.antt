@@ -1,5 +1,5 @@
 use Rattle.std.proofs.Common.{◌≡◌, ◌+◌}
-use Rattle.sorted_list.specs.Rosters.{NoneBefore}
+use Rattle.sorted_list.specs.Places.{NoneBefore}
 use Rattle.sorted_list.proofs.places.place_from.Given as goal
 
 abbrev pub invariant-loop-course : goal.invariant-loop-course

@@ -1,6 +1,6 @@
 use Rattle.std.proofs.Common.{◌+◌, arith}
 use Rattle.std.proofs.lemmas.Grind.{common_steps}
-use Rattle.sorted_list.specs.Rosters.{NoneBefore}
+use Rattle.sorted_list.specs.Places.{NoneBefore}
 use Rattle.sorted_list.proofs.Changes.{found_first}
 use Rattle.sorted_list.proofs.places.place_of.Goals as goal
 

@@ -1,5 +1,5 @@
 use Rattle.std.proofs.Common.{◌-◌, ◌≤◌, length}
-use Rattle.sorted_list.specs.Rosters.{NoneBefore}
+use Rattle.sorted_list.specs.Places.{NoneBefore}
 use Rattle.sorted_list.proofs.places.place_of.Given as goal
 
 abbrev pub invariant-loop-place : goal.invariant-loop-place

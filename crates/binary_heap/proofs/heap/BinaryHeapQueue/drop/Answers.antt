@@ -10,8 +10,8 @@ pub returns-in_err-key-clause-after : goal.returns-in_err-key-clause-after
 returns-in_err-key-clause-after g c =
     subst (λ r. Dropped (heap_meaning g.K.Key.before) c.args.self.now r c.args.ticket c.from_residual.result) (sym (same_heap c.args.self.now _ _)) (search rules)
 
-pub returns-in_default-clause-after : goal.returns-in_default-clause-after
-returns-in_default-clause-after g c = (same_heap c.args.self.now _ _, search rules)
+pub returns-in_default-clause-none : goal.returns-in_default-clause-none
+returns-in_default-clause-none g c = same_heap c.args.self.now _ _
 
 pub invariant_of-self-2 : goal.invariant_of-self-2
 invariant_of-self-2 g c = record {

@@ -14,15 +14,15 @@ returns-in-Enter-clause-adds g c =
     let p : to_z w32 (of_z w32 c.in-Enter.position) ≡ c.in-Enter.position = omega (arith, ints) in
     let v : to_z w16 (of_z w16 c.in-Enter.speed) ≡ c.in-Enter.speed = omega (arith, ints) in
     let laws = g.met.S.Structure in
-    plain_adds g.S.Structure.means g.Q.Queue.means laws.ordered laws.leads _ _ _ _ _ c.enter.result c.args.rows.now (c.in-Enter.is ∙ ap (λ x. Enter c.in-Enter.number x c.in-Enter.speed) (sym p) ∙ ap (λ x. Enter c.in-Enter.number (to_z w32 (of_z w32 c.in-Enter.position)) x) (sym v)) c.outcome_of.ensures tt c.enter.ensures
+    plain_adds g.S.Structure.means g.Q.Queue.means laws.ordered laws.leads _ _ _ _ _ c.enter.result c.args.rows.now (c.in-Enter.is ∙ ap (λ x. Enter c.in-Enter.number x c.in-Enter.speed) (sym p) ∙ ap (λ x. Enter c.in-Enter.number (to_z w32 (of_z w32 c.in-Enter.position)) x) (sym v)) c.outcome_of.ensures tt c.enter.ensures.adds
 
 pub returns-in-Leave-clause-adds : goal.returns-in-Leave-clause-adds
 returns-in-Leave-clause-adds g c =
     let laws = g.met.S.Structure in
-    plain_adds g.S.Structure.means g.Q.Queue.means laws.ordered laws.leads _ _ _ _ _ c.leave.result c.args.rows.now c.in-Leave.is c.outcome_of-in-Leave.ensures tt c.leave.ensures
+    plain_adds g.S.Structure.means g.Q.Queue.means laws.ordered laws.leads _ _ _ _ _ c.leave.result c.args.rows.now c.in-Leave.is c.outcome_of-in-Leave.ensures tt c.leave.ensures.adds
 
 pub returns-in-Steer-clause-adds : goal.returns-in-Steer-clause-adds
 returns-in-Steer-clause-adds g c =
     let v : to_z w16 (of_z w16 c.in-Steer.speed) ≡ c.in-Steer.speed = omega (arith, ints) in
     let laws = g.met.S.Structure in
-    plain_adds g.S.Structure.means g.Q.Queue.means laws.ordered laws.leads _ _ _ _ _ c.steer.result c.args.rows.now (c.in-Steer.is ∙ ap (λ x. Steer c.in-Steer.number x) (sym v)) c.outcome_of-in-Steer.ensures tt c.steer.ensures
+    plain_adds g.S.Structure.means g.Q.Queue.means laws.ordered laws.leads _ _ _ _ _ c.steer.result c.args.rows.now (c.in-Steer.is ∙ ap (λ x. Steer c.in-Steer.number x) (sym v)) c.outcome_of-in-Steer.ensures tt c.steer.ensures.adds

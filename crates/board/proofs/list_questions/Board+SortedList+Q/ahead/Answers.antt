@@ -2,11 +2,14 @@ use Rattle.std.proofs.Common.{◌≡◌, Option, Ok, ap, ◌∙◌}
 use Rattle.fairway.specs.Instants.{value}
 use Rattle.fairway.specs.declared.course.Course.{Course}
 use Rattle.sorted_list.specs.Questions.{courses_of}
-use Rattle.sorted_list.specs.Rosters.{next_after}
-use Rattle.board.specs.ListQuestions.{AheadIs, front_neighbour}
+use Rattle.board.specs.ListQuestions.{NeighbourIs, neighbour, next_on}
 use Rattle.board.specs.declared.list.Neighbour.{Neighbour}
-use Rattle.board.proofs.Vessels.{about, asked, refused, refused_so, book_next_front}
+use Rattle.board.specs.declared.list.Side.TheVariants.{Ahead}
+use Rattle.board.proofs.Vessels.{about, asked, refused, not_refused, book_next}
 use Rattle.board.proofs.list_questions.«Board+SortedList+Q».ahead.Goals as goal
+
+pub unreachable-requires : goal.unreachable-requires
+unreachable-requires g c = not_refused c.args.self.now.structure c.args.number c.in_ok-own.ensures.accepted c.in_default.ensures
 
 pub returns : goal.returns
 returns g c =
@@ -15,20 +18,14 @@ returns g c =
     let v = c.args.number in
     let xs = courses_of b.structure in
     let t = value b.clock in
-    let h = c.in_ok-front.ensures in
-    let P : Course → Option Neighbour → Type 0 = λ d answer. answer ≡ front_neighbour t d (next_after v xs) in
+    let h = c.in-Ok.ensures in
+    let P : Course → Option Neighbour → Type 0 = λ d answer. answer ≡ neighbour Ahead t d (next_on Ahead v xs) in
     let own = c.in_ok-own.own in
-    asked n b v P AheadIs (book_next_front n b v h) (Ok c.front_neighbour.result)
-    (about xs v P own c.front_neighbour.result c.in_ok-own.ensures (c.front_neighbour.ensures ∙ ap (front_neighbour t own) {y = next_after v xs} h.value))
+    asked n b v P (NeighbourIs Ahead) (book_next n b Ahead v _ h.value h.next) (Ok c.neighbour.result)
+    (about xs v P own c.neighbour.result c.in_ok-own.ensures (c.neighbour.ensures ∙ ap (neighbour Ahead t own) {y = next_on Ahead v xs} h.value))
 
 pub returns-in_err-own : goal.returns-in_err-own
 returns-in_err-own g c =
     let b = c.args.self.now in
     let v = c.args.number in
-    refused g.Q.Queue.means b v (λ d answer. answer ≡ front_neighbour (value b.clock) d (next_after v (courses_of b.structure))) AheadIs c.in_err-own.field-0.0 c.in_err-own.ensures c.from_residual.result c.from_residual.ensures.1
-
-pub returns-in_err-front : goal.returns-in_err-front
-returns-in_err-front g c =
-    let b = c.args.self.now in
-    let v = c.args.number in
-    refused g.Q.Queue.means b v (λ d answer. answer ≡ front_neighbour (value b.clock) d (next_after v (courses_of b.structure))) AheadIs _ (refused_so b.structure v c.in_err-front.field-0.0 c.in_err-front.ensures) c.from_residual-in_err-front.result c.from_residual-in_err-front.ensures.1
+    refused g.Q.Queue.means b v (λ d answer. answer ≡ neighbour Ahead (value b.clock) d (next_on Ahead v (courses_of b.structure))) (NeighbourIs Ahead) c.in_err-own.field-0.0 c.in_err-own.ensures c.from_residual.result c.from_residual.ensures.1

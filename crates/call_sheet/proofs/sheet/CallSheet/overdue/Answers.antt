@@ -10,7 +10,7 @@ returns-in_err-line g c =
     let m = g.Q.Queue.means in
     let q = c.args.self.now.queue in
     let none = c.in_err-line.ensures.after in
-    let done : Hails m q c.take.new.self c.args.second None = (none.0, λ s i k h. ltb-true c.args.second k (none.1 s i k h)) in
+    let done : Hails m q c.take.new.self c.args.second None = (λ s. ((λ i k h. ltb-true c.args.second k ((none s).0 i k h)), (none s).1)) in
     rw c.from_residual.ensures record {
       after = done;
       keeps = c.take.ensures.keeps;

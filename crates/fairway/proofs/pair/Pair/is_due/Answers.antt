@@ -1,6 +1,7 @@
 use Rattle.std.proofs.Common.{◌≡◌, ◌*◌, true, subst, arith, rules}
 use Rattle.fairway.specs.Stamps.{time_of}
-use Rattle.fairway.specs.Courses.{Decides, faster}
+use Rattle.std.specs.Bool.{Decides}
+use Rattle.fairway.specs.Courses.{faster}
 use Rattle.fairway.specs.Meetings.{gap, gain}
 use Rattle.fairway.proofs.Meetings.{due_where, not_due_ahead}
 use Rattle.fairway.proofs.Pairs.{test_no}
@@ -16,7 +17,7 @@ returns c =
     let t = time_of c.args.at in
     let d : c.abs_diff.result ≡ gap c.args.self.rear c.args.self.front = search rules in
     let e : c.abs_diff-2.result ≡ gain c.args.self.rear c.args.self.front = search rules in
-    let told : Decides (t.num * gain c.args.self.rear c.args.self.front ≡ gap c.args.self.rear c.args.self.front * t.den) c.is_made_up.result =
-    subst (λ x. Decides (t.num * gain c.args.self.rear c.args.self.front ≡ x * t.den) c.is_made_up.result) d
-    (subst (λ x. Decides (t.num * x ≡ c.abs_diff.result * t.den) c.is_made_up.result) e c.is_made_up.ensures) in
+    let told : Decides c.is_made_up.result (t.num * gain c.args.self.rear c.args.self.front ≡ gap c.args.self.rear c.args.self.front * t.den) =
+    subst (λ x. Decides c.is_made_up.result (t.num * gain c.args.self.rear c.args.self.front ≡ x * t.den)) d
+    (subst (λ x. Decides c.is_made_up.result (t.num * x ≡ c.abs_diff.result * t.den)) e c.is_made_up.ensures) in
     due_where t c.args.self.rear c.args.self.front (cc) (search (rules, test_no)) c.is_made_up.result told

@@ -1,6 +1,6 @@
 use Rattle.std.proofs.Common.{sym, refl, subst}
 use Rattle.fairway.proofs.Sorting.{order_is}
-use Rattle.sorted_list.specs.Questions.{InOrder}
+use Rattle.sorted_list.specs.Questions.{CoursesAnswer}
 use Rattle.sorted_list.specs.RostersLemmas.{well_apart}
 use Rattle.sorted_list.specs.Laws.{rests_sorted}
 use Rattle.sorted_list.proofs.list.SortedList.courses.Goals as goal
@@ -9,7 +9,7 @@ pub returns : goal.returns
 returns c =
     let s = c.args.self.now in
     let xs = s.courses.items in
-    subst (InOrder s) (sym c.as_slice.ensures.value)
+    subst (CoursesAnswer s) (sym c.as_slice.ensures.value)
     (record {
       value = refl;
       apart = well_apart xs s.sound;

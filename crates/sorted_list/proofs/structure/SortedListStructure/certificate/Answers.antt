@@ -2,7 +2,6 @@ use Rattle.std.proofs.Common.{◌≡◌, suc, ◌+◌, ◌<◌, length, get_or, 
 use Rattle.std.proofs.lemmas.List.{get_or_default}
 use Rattle.sorted_list.specs.RostersLemmas.{cert_is, cert_past}
 use Rattle.sorted_list.proofs.structure.SortedListStructure.certificate.Goals as goal
-use Rattle.fairway.specs.Orders.{pair}
 
 pub returns-in_err-rear : goal.returns-in_err-rear
 returns-in_err-rear c =
@@ -25,4 +24,4 @@ returns c =
     let h : i + 1 < length xs = omega (arith, ap length v, c.in_ok-front.ensures.lookup.3.0) in
     let p : x ≡ get_or xs i x = c.in_ok-rear.ensures.lookup.1 ∙ ap (λ l. get_or l i x) u in
     let q : y ≡ get_or xs (suc i) x = c.in_ok-front.ensures.lookup.1 ∙ ap (λ l. get_or l (i + 1) y) v ∙ get_or_default xs (i + 1) y x h ∙ ap (λ k. get_or xs k x) (add-one i) in
-    ap Some c.new.ensures ∙ sym (cert_is xs i x (omega arith) ∙ ap (λ z. Some (pair z (get_or xs (suc i) x))) (sym p) ∙ ap (λ z. Some (pair x z)) (sym q))
+    sym (cert_is xs i x (omega arith) ∙ ap (λ z. Some (z, get_or xs (suc i) x)) (sym p) ∙ ap (λ z. Some (x, z)) (sym q))

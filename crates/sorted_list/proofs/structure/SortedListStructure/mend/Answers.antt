@@ -2,7 +2,7 @@ use Rattle.std.proofs.Common.{◌+◌, ◌<◌, true, arith, rules}
 use Rattle.fairway.specs.Stamps.{time_of}
 use Rattle.kinetic.proofs.Refused.{mend_accepted}
 use Rattle.kinetic.proofs.Tests.{tested}
-use Rattle.fairway.specs.Lists.{pair_at}
+use Rattle.sorted_list.specs.Rosters.{certificate_at}
 use Rattle.sorted_list.specs.Questions.{means}
 use Rattle.sorted_list.proofs.Calls.{DueAt, told_due, pair_faster, away_named, passed_is}
 use Rattle.sorted_list.proofs.structure.SortedListStructure.mend.Goals as goal
@@ -29,15 +29,15 @@ numbers_from-requires c =
     let few = c.args.self.now.few in
     omega (arith, d.within)
 
-pub returns : goal.returns
-returns c =
+pub returns-clause-mended : goal.returns-clause-mended
+returns-clause-mended c =
     let t = time_of c.args.at in
     let i = c.args.certificate in
     let xs = c.args.self.now.courses.items in
     let ys = c.exchange.new.self.courses.items in
-    let d = due_at (goal.at.returns c).Else-not-is_certificate_due in
+    let d = due_at (goal.at.returns-clause-mended c).Else-not-is_certificate_due in
     let p = passed_is t xs ys i c.args.self.now.sound d c.exchange.ensures in (
-      mend_accepted means c.args.self.now t i (tested t c.certificate.result (pair_at xs i) true c.if-not-is_certificate_due.ensures c.certificate.ensures),
+      mend_accepted means c.args.self.now t i (tested t c.certificate.result (certificate_at xs i) true c.if-not-is_certificate_due.ensures c.certificate.ensures),
       record {
         roster = p.roster;
         named = away_named xs ys c.numbers_from.result i d.within c.exchange.ensures c.numbers_from.ensures;

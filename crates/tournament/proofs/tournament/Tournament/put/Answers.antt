@@ -15,7 +15,7 @@ invariant_of-self c =
     let p = c.args.place in
     let o = c.args.entrant in
     let ns' = c.play_above.new.nodes in
-    let again = c.play_above.ensures in
+    let again = c.play_above.ensures.played in
     let long : length ns' ≡ 127 = c.play_above.auto.nodes ∙ length-set me.nodes (63 + p) o ∙ me.sized in
     record {
       sized = long;
@@ -30,7 +30,7 @@ returns c =
     let p = c.args.place in
     let o = c.args.entrant in
     let ns' = c.play_above.new.nodes in
-    let again = c.play_above.ensures in
+    let again = c.play_above.ensures.played in
     let long : length ns' ≡ 127 = c.play_above.auto.nodes ∙ length-set me.nodes (63 + p) o ∙ me.sized in
     let sound = subst (λ l. Sound (taken l)) (sym (put_places t (proper c.args.at) p o me.nodes ns' c.play_above.result c.requires.within me.sized long again)) c.requires.sound in
-    put_is t (proper c.args.at) p o me.nodes ns' c.play_above.result c.requires.within me.sized long again sound
+    put_is t (proper c.args.at) p o me.nodes ns' c.play_above.result c.requires.within me.sized long again c.play_above.ensures.named sound

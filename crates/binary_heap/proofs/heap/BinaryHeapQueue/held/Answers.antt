@@ -1,0 +1,5 @@
+use Rattle.binary_heap.proofs.Methods.{same_heap}
+use Rattle.binary_heap.proofs.heap.BinaryHeapQueue.held.Goals as goal
+
+pub returns-clause-same : goal.returns-clause-same
+returns-clause-same g c = same_heap c.args.self.now _ _
