@@ -1,18 +1,15 @@
 -- Instants: lowest terms, which numbers make one, and that a value has one.
-use Rattle.std.proofs.Common.{◌≡◌, ℕ, ◌+◌, ◌-◌, ◌*◌, ◌/◌, ◌%◌, ◌<◌, ◌≤◌, Bool, true, false, ◌⊎◌, inl, inr, ◌&&◌, ◌==◌, None, sym, refl, ap, ◌∙◌, subst, ⊎_elim, mul-le-mul_right, mod-eq_of_lt, div-le_self, add-mul, arith}
+use Rattle.std.proofs.Common.{◌≡◌, ℕ, ◌+◌, ◌-◌, ◌*◌, ◌/◌, ◌%◌, ◌<◌, ◌≤◌, Bool, true, false, ◌⊎◌, inl, inr, ◌&&◌, ◌==◌, None, sym, ap, ◌∙◌, subst, ⊎_elim, mul-le-mul_right, mod-eq_of_lt, div-le_self, add-mul, arith}
 use Prim.Native.Nat.{◌∣◌}
 use native.Mathlib.Nat.{pos_of_dvd_of_pos, div-mul_cancel, dvd-mod_iff, mul-add-mod_self_right}
 use Rattle.std.proofs.lemmas.Bool.Decides.{nat_tests, Decides-at, Decides-like}
 use Rattle.std.proofs.lemmas.Bool.{cases_order, cases_lt, cases_Bool}
-use Rattle.std.specs.Ordering.{is_lt, is_gt, ordering_then, ordering_reverse, nat_cmp}
-use Rattle.std.specs.declared.cmp.Ordering.{Ordering}
-use Rattle.std.specs.declared.cmp.Ordering.TheVariants.{Less, Equal, Greater}
+use Rattle.std.specs.Ordering.{is_lt, ordering_then, nat_cmp}
 use Rattle.fairway.specs.Times.{ratio, whole_and, ◌=ᵗ◌, ◌<ᵗ◌}
 use Rattle.fairway.specs.Fractions.{CommonDivisor, Coprime, Reduced}
 use Rattle.std.specs.Bool.{Decides}
 use Rattle.fairway.specs.Stamps.{time_of, den, BelowOne}
 use Rattle.fairway.specs.StampsLemmas.{crossed, crossed_lt}
-use Rattle.fairway.specs.InstantsLemmas.{total}
 use Rattle.fairway.specs.Instants.{time_order, value, stamp_of, instant_refusal, SameNumbers, SameInstant}
 use Rattle.fairway.specs.declared.instant.Instant.{Instant}
 use Rattle.fairway.specs.declared.stamp.Stamp.{Stamp}
@@ -141,14 +138,6 @@ earlier_by a b =
 
 pub told_before : (a b : Instant) (r : Bool) → r ≡ is_lt (time_order a b) → Decides r (value a <ᵗ value b)
 told_before a b r e = Decides-at r (is_lt (time_order a b)) e (earlier_by a b)
-
-turned_test : (o : Ordering) → is_lt (ordering_reverse o) ≡ is_gt o
-turned_test Less = refl
-turned_test Equal = refl
-turned_test Greater = refl
-
-pub told_after : (a b : Instant) (r : Bool) → r ≡ is_gt (time_order a b) → Decides r (value b <ᵗ value a)
-told_after a b r e = told_before b a r (e ∙ sym (ap is_lt (total.antisymm b a) ∙ turned_test (time_order a b)))
 
 -- ---- an instant as a stamp
 pub stamp_time : (i : Instant) → time_of (stamp_of i) ≡ value i

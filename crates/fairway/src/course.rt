@@ -89,7 +89,15 @@ impl Course {
     pub fn is_behind(self, other: Course, at: Stamp) -> bool
         ensures { result ≡ behind (time_of at) self other }
     {
-        (self.position_at(at), self.speed, self.number)
-            < (other.position_at(at), other.speed, other.number)
+        let own = self.position_at(at);
+        let others = other.position_at(at);
+        // most differ in their positions: the rest is compared only where they do not
+        if own < others {
+            return true;
+        }
+        if others < own {
+            return false;
+        }
+        (self.speed, self.number) < (other.speed, other.number)
     }
 }

@@ -14,8 +14,8 @@ pub fn count_slower(courses: &[Course], rear: Course) -> usize
 {
     courses
         .iter()
-        .filter(|front| rear.is_faster(**front))
-        .count()
+        .map(|front| usize::from(rear.is_faster(*front)))
+        .sum()
 }
 
 /// The load of a list from rear to front: how many pairs, the one that comes first as rear, have a faster rear.
@@ -38,8 +38,8 @@ fn count_turned(courses: &[Course], rear: Course, from: Stamp, to: Stamp) -> usi
 {
     courses
         .iter()
-        .filter(|front| Pair::new(rear, **front).is_turned(from, to))
-        .count()
+        .map(|front| usize::from(Pair::new(rear, *front).is_turned(from, to)))
+        .sum()
 }
 
 /// How many pairs of a roster an advance turns: the one that is behind at its beginning is in front at its end.

@@ -56,11 +56,11 @@ impl Instant {
     }
 
     /// Whether this instant is later.
-    #[tactic(auto, using(crate::proofs::Instants::told_after))]
+    #[tactic(auto, using(crate::proofs::Instants::told_before))]
     pub fn is_after(&self, other: &Instant) -> bool
         ensures { Decides result (value other.now <ᵗ value self.now) }
     {
-        self > other
+        other < self
     }
 
     /// Whether the two are the same instant.

@@ -19,9 +19,13 @@ impl Ord for Instant {
     ghost matches_eq = { Instants.ties };
 
     fn cmp(&self, other: &Instant) -> Ordering {
+        // most differ in their seconds: the products are made only where they do not
+        if self.seconds != other.seconds {
+            return self.seconds.cmp(&other.seconds);
+        }
         let own = u32::from(self.numerator) * u32::from(other.denominator);
         let others = u32::from(other.numerator) * u32::from(self.denominator);
-        (self.seconds, own).cmp(&(other.seconds, others))
+        own.cmp(&others)
     }
 }
 
