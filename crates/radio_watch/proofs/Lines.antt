@@ -1,6 +1,6 @@
 -- What the lines of a script ask for, by the parts that its line feeds cut it into.
-use Rattle.std.proofs.Common.{◌≡◌, ℕ, ◌+◌, Bool, true, false, cond, eqb, List, [], ◌∷◌, ◌++◌, map, Some, None, Ok, Err, Bor, ◌⊎◌, inl, inr, refl, ap, ◌∙◌, ⊎_elim}
-use Rattle.std.specs.List.{onto_first, slice_split, enumerate_from}
+use Rattle.std.proofs.Common.{◌≡◌, ℕ, ◌+◌, Bool, true, false, cond, not, eqb, List, [], ◌∷◌, ◌++◌, length, map, Some, None, Ok, Err, Bor, ◌⊎◌, inl, inr, refl, ap, ◌∙◌, ⊎_elim, arith}
+use Rattle.std.specs.List.{onto_first, slice_split, enumerate_from, filter}
 use Rattle.std.proofs.lemmas.List.{map_push}
 use Rattle.radio_watch.specs.Script.{lines, reading, item, items_from, items, Item, Reading}
 
@@ -36,6 +36,21 @@ read_more found now xs x said inv e put =
     let all : asked (map seen (xs ++ x ∷ [])) ≡ asked (map seen xs ++ seen x ∷ []) = ap asked pushed in
     cc
 
+-- a line that is not empty
+abbrev pub filled : List ℕ → Bool
+filled [] = false
+filled (b ∷ bs) = true
+
+pub filled_is : (line : List ℕ) (r : Bool) → r ≡ not (eqb (length line) 0) → r ≡ filled line
+filled_is [] r e = e
+filled_is (b ∷ bs) r e = grind arith
+
+-- an empty line asks for nothing
+asked_filled : (xs : List Numbered) → asked (filter (λ x. filled x.1) xs) ≡ asked xs
+asked_filled [] = refl
+asked_filled ((n, []) ∷ xs) = asked_filled xs
+asked_filled ((n, b ∷ bs) ∷ xs) = ap (item (n + 1) (reading (b ∷ bs))) (asked_filled xs)
+
 asked_from : (n : ℕ) (parts : List (List ℕ)) → asked (enumerate_from n parts) ≡ items_from (n + 1) parts
 asked_from n [] = refl
 asked_from n (part ∷ parts) = ap (item (n + 1) (reading part)) (asked_from (n + 1) parts)
@@ -62,8 +77,8 @@ last_empty : (n : ℕ) (ls : List (List ℕ)) → items_from n (ls ++ [] ∷ [])
 last_empty n [] = refl
 last_empty n (l ∷ ls) = ap (item n (reading l)) (last_empty (n + 1) ls)
 
-pub all_asked : (s : List ℕ) → asked (enumerate_from 0 (slice_split line_feed s)) ≡ items s
-all_asked s = asked_from 0 (slice_split line_feed s) ∙ ⊎_elim
+pub all_asked : (s : List ℕ) → asked (filter (λ x. filled x.1) (enumerate_from 0 (slice_split line_feed s))) ≡ items s
+all_asked s = asked_filled (enumerate_from 0 (slice_split line_feed s)) ∙ asked_from 0 (slice_split line_feed s) ∙ ⊎_elim
     (λ e. ap (items_from 1) e)
     (λ e. ap (items_from 1) e ∙ last_empty 1 (lines s))
     (parts_are s)

@@ -1,81 +1,79 @@
--- The words of a line are the parts that blanks cut it into, without the empty ones.
-use Rattle.std.proofs.Common.{◌≡◌, ℕ, Bool, true, false, cond, not, eqb, List, [], ◌∷◌, length, Some, None, Option, Ok, subst, sym, refl, ap, arith}
-use Rattle.std.specs.List.{onto_first, slice_split, filter}
-use Rattle.std.specs.List.{starts_with}
-use Rattle.std.specs.Fn.{CalledAt}
-use Rattle.std.specs.Iterator.{AlwaysYields}
-use Rattle.std.specs.Iterator.Adapters.{filter_source, filter_callee, filter_steps}
-use Rattle.std.specs.Slice.Iter.{split_rest, split_done, split_callee, split_steps}
-use Rattle.std.proofs.lemmas.Iterator.{YieldsList}
-use Rattle.std.proofs.lemmas.Iterator.Consumers.{YieldsList-at, YieldsList-from_filter}
-use Rattle.std.proofs.lemmas.Iterator.Splits.{YieldsList-from_slice_split}
-use denote.Param.Members.{Mut}
-use denote.Ref.{Bor}
-use Rattle.radio_watch.specs.Script.{blank, words, command, hash, reading}
+-- The first word of a text stands between its first byte that is no blank and the next blank.
+use Rattle.std.proofs.Common.{◌≡◌, ℕ, suc, ◌+◌, ◌-◌, ◌<◌, Bool, true, false, cond, not, ltb, List, [], ◌∷◌, length, take, drop, Some, None, Option, sym, refl, ap, ◌∙◌, arith}
+use Rattle.std.specs.List.{onto_first, position_or_len}
+use Rattle.std.specs.Option.{unwrap_or}
+use Rattle.std.proofs.lemmas.List.{at_drop_more, take_rest, length-drop, nil_from_length}
+use Rattle.std.proofs.lemmas.List.Sums.{passes_at_first, prefix_len-le-length}
+use Rattle.std.proofs.lemmas.Bool.{not-true}
+use Rattle.radio_watch.specs.Script.{blank, at_word, words}
 
-abbrev pub filled : List ℕ → Bool
-filled [] = false
-filled (b ∷ bs) = true
+abbrev pub no_blank : ℕ → Bool
+no_blank b = not (blank b)
 
-pub filled_is : (part : List ℕ) (r : Bool) → r ≡ not (eqb (length part) 0) → r ≡ filled part
-filled_is [] r e = e
-filled_is (b ∷ bs) r e = grind arith
+-- where the first word begins and ends
+abbrev pub blank_length : List ℕ → ℕ
+blank_length s = position_or_len no_blank s
 
--- a byte in front of a part that has one already
-onto_filled : (b c : ℕ) (parts ws : List (List ℕ)) → filter filled (onto_first c parts) ≡ ws → filter filled (onto_first b (onto_first c parts)) ≡ onto_first b ws
-onto_filled b c [] ws e = ap (onto_first b) e
-onto_filled b c (part ∷ parts) ws e = ap (onto_first b) e
+abbrev pub word_length : List ℕ → ℕ
+word_length s = position_or_len blank s
 
--- what a first byte adds, where it is blank or not and the second is blank or not
-cut_more : (b c : ℕ) (parts ws : List (List ℕ)) (v u : Bool) → filter filled (cond u ([] ∷ parts) (onto_first c parts)) ≡ ws → filter filled (cond v ([] ∷ cond u ([] ∷ parts) (onto_first c parts)) (onto_first b (cond u ([] ∷ parts) (onto_first c parts)))) ≡ cond v ws (cond (not u) (onto_first b ws) ((b ∷ []) ∷ ws))
-cut_more b c parts ws true u e = e
-cut_more b c parts ws false true e = ap (λ (ps : List (List ℕ)). (b ∷ []) ∷ ps) e
-cut_more b c parts ws false false e = onto_filled b c parts ws e
+skip_one : (b : ℕ) (bs : List ℕ) (v : Bool) → blank b ≡ v → words bs ≡ words (drop (blank_length bs) bs) → words (b ∷ bs) ≡ words (drop (blank_length (b ∷ bs)) (b ∷ bs))
+skip_one b bs true e more =
+    let first : words (b ∷ bs) ≡ words bs = ap (λ (v : Bool). cond v (words bs) (cond (at_word bs) (onto_first b (words bs)) ((b ∷ []) ∷ words bs))) e in
+    let k : blank_length (b ∷ bs) ≡ suc (blank_length bs) = ap (λ (v : Bool). cond (not (not v)) (1 + blank_length bs) 0) e ∙ omega arith in
+    first ∙ more ∙ sym (ap (λ (n : ℕ). words (drop n (b ∷ bs))) k)
+skip_one b bs false e more = ap (λ (n : ℕ). words (drop n (b ∷ bs))) (sym (ap (λ (v : Bool). cond (not (not v)) (1 + blank_length bs) 0) e))
 
-words_are : (s : List ℕ) → filter filled (slice_split blank s) ≡ words s
-words_are [] = refl
-words_are (b ∷ []) =
-    elim (blank b) as (λ v. filter filled (cond v ([] ∷ [] ∷ []) ((b ∷ []) ∷ [])) ≡ cond v [] ((b ∷ []) ∷ [])) [ true ↦ refl | false ↦ refl ]
-words_are (b ∷ c ∷ cs) = cut_more b c (slice_split blank cs) (words (c ∷ cs)) (blank b) (blank c) (words_are (c ∷ cs))
+-- the blanks in front are in no word
+words_skip : (s : List ℕ) → words s ≡ words (drop (blank_length s) s)
+words_skip [] = refl
+words_skip (b ∷ bs) = skip_one b bs (blank b) refl (words_skip bs)
 
--- one call of an iterator that gives a list: it gives the first of it, and leaves what gives the rest
-module _ {S A B : Type 0} (steps : S → Option A → S → Type 0) (v : A → B) (s t : S) where
-  none_from : (ys : List B) → AlwaysYields steps v s ys → steps s None t → ys ≡ []
-  none_from [] e h = refl
-  none_from (y ∷ ys) e h = absurd (e.0 t h)
+-- and the first word stands behind them
+words_stop : (s : List ℕ) → blank_length s < length s → at_word (drop (blank_length s) s) ≡ true
+words_stop s h = at_drop_more at_word s (blank_length s) 0 h ∙ passes_at_first no_blank s 0 h
 
-  some_from : (ys : List B) (x : A) → AlwaysYields steps v s ys → steps s (Some x) t → (more : List B) × (ys ≡ v x ∷ more) × YieldsList steps v t more
-  some_from [] x e h = absurd (e x t h)
-  some_from (y ∷ ys) x e h =
-      let k : (v x ≡ y) × AlwaysYields steps v t ys = e.1 x t h in
-      (ys, ap (λ (z : B). z ∷ ys) (sym k.0), record { runs = k.1 })
+-- a word goes on to the next blank
+cut_one : (b c : ℕ) (cs : List ℕ) (v : Bool) → blank b ≡ false → blank c ≡ v → (blank c ≡ false → words (c ∷ cs) ≡ take (word_length (c ∷ cs)) (c ∷ cs) ∷ words (drop (word_length (c ∷ cs)) (c ∷ cs))) → words (b ∷ c ∷ cs) ≡ take (word_length (b ∷ c ∷ cs)) (b ∷ c ∷ cs) ∷ words (drop (word_length (b ∷ c ∷ cs)) (b ∷ c ∷ cs))
+cut_one b c cs true h e more = simp (h, e)
+cut_one b c cs false h e more =
+    let W : List (List ℕ) = words (c ∷ cs) in
+    let l : words (b ∷ c ∷ cs) ≡ cond (not (blank c)) (onto_first b W) ((b ∷ []) ∷ W) = ap (λ (v : Bool). cond v W (cond (not (blank c)) (onto_first b W) ((b ∷ []) ∷ W))) h in
+    let m : cond (not (blank c)) (onto_first b W) ((b ∷ []) ∷ W) ≡ onto_first b W = ap (λ (v : Bool). cond (not v) (onto_first b W) ((b ∷ []) ∷ W)) e in
+    let k : word_length (b ∷ c ∷ cs) ≡ suc (word_length (c ∷ cs)) = ap (λ (v : Bool). cond (not v) (1 + word_length (c ∷ cs)) 0) h ∙ omega arith in
+    l ∙ m ∙ ap (onto_first b) (more e) ∙ sym (ap (λ (n : ℕ). take n (b ∷ c ∷ cs) ∷ words (drop n (b ∷ c ∷ cs))) k)
 
-  pub none_left : {ys : List B} → YieldsList steps v s ys → steps s None t → ys ≡ []
-  none_left {ys} e h = none_from ys e.runs h
+words_cut : (b : ℕ) (bs : List ℕ) → blank b ≡ false → words (b ∷ bs) ≡ take (word_length (b ∷ bs)) (b ∷ bs) ∷ words (drop (word_length (b ∷ bs)) (b ∷ bs))
+words_cut b [] h = simp h
+words_cut b (c ∷ cs) h = cut_one b c cs (blank c) h refl (words_cut c cs)
 
-  pub one_left : {ys : List B} → YieldsList steps v s ys → (x : A) → steps s (Some x) t → (more : List B) × (ys ≡ v x ∷ more) × YieldsList steps v t more
-  one_left {ys} e x h = some_from ys x e.runs h
+cut_at : (t : List ℕ) → at_word t ≡ true → words t ≡ take (word_length t) t ∷ words (drop (word_length t) t)
+cut_at [] h = absurd (let z : ◌≡◌ {A = ℕ} 0 1 = cc in omega arith)
+cut_at (b ∷ bs) h = words_cut b bs (not-true (blank b) h)
 
--- the parts of a line, cut at blanks, of which the filled ones are kept
-pub words_road : {F G : Type 0} {parts : _} {s : _} {f : F} {k : G} (g : Mut F (Bor ℕ × Unit {0}) Bool) (h : Mut G (Bor (Bor (List ℕ)) × Unit {0}) Bool) (line : List ℕ) → split_rest parts ≡ line → split_done parts ≡ false → split_callee parts ≡ f → filter_source s ≡ parts → filter_callee s ≡ k → ((x : ℕ) (b : Bool) (q : F) → CalledAt g f x b q → (q ≡ f) × (b ≡ blank x)) → ((x : Bor (List ℕ)) (b : Bool) (q : G) → CalledAt h k x b q → (q ≡ k) × (b ≡ filled x.now)) → YieldsList (filter_steps (split_steps g) h) (λ x. x.now) s (words line)
-words_road {s = s} g h line rest done cuts source keeps blanks fills =
-    let parts = YieldsList-from_slice_split g blank line rest done cuts blanks in
-    let kept = YieldsList-from_filter h filled (YieldsList-at source parts) keeps fills in
-    subst (λ (ws : List (List ℕ)). YieldsList (filter_steps (split_steps g) h) (λ x. x.now) s ws) (words_are line) kept
+-- the first place of a list that passes a test, or none, as `position` gives it
+abbrev pub found_at : (ℕ → Bool) → List ℕ → Option ℕ
+found_at test s = cond (ltb (position_or_len test s) (length s)) (Some (position_or_len test s)) None
 
-pub behind : (word : List ℕ) {ws more : List (List ℕ)} → ws ≡ more → word ∷ ws ≡ word ∷ more
-behind word e = ap (λ (l : List (List ℕ)). word ∷ l) e
+-- what `position` gives, or else the length
+pub cut_place : (test : ℕ → Bool) (s : List ℕ) (r : Option ℕ) (n : ℕ) → r ≡ found_at test s → n ≡ unwrap_or r (length s) → n ≡ position_or_len test s
+cut_place test s r n e en = grind (arith, prefix_len-le-length (λ b. not (test b)) s)
 
-pub hash_is : (name : List ℕ) (r : Bool) → r ≡ starts_with eqb name (35 ∷ []) → r ≡ hash name
-hash_is [] r e = e
-hash_is (b ∷ bs) r e = grind arith
+-- t is what the text s has from its first word on
+module _ (s t : List ℕ) (n : ℕ) (en : n ≡ blank_length s) (et : t ≡ take (length s - n) (drop n s)) where
+  from_word : t ≡ drop (blank_length s) s
+  from_word = et ∙ take_rest s n ∙ ap (λ (k : ℕ). drop k s) en
 
--- what a line says, by its words
-pub nothing : (line : List ℕ) → words line ≡ [] → Ok None ≡ reading line
-nothing line e = rw e refl
+  pub no_word : length t ≡ 0 → words s ≡ []
+  no_word h = words_skip s ∙ ap words (sym from_word ∙ nil_from_length t h)
 
-pub commented : (line name : List ℕ) (more : List (List ℕ)) → words line ≡ name ∷ more → hash name ≡ true → Ok None ≡ reading line
-commented line name more e h = rw (e, h) refl
-
-pub commanded : (line name : List ℕ) (more : List (List ℕ)) → words line ≡ name ∷ more → hash name ≡ false → command (name ∷ more) ≡ reading line
-commanded line name more e h = rw (e, h) refl
+  pub found_word : (w r : List ℕ) (m : ℕ) → (length t ≡ 0 → ⊥) → m ≡ word_length t → w ≡ take m t → r ≡ drop m t → words s ≡ w ∷ words r
+  found_word w r m ne em ew er =
+      let h : blank_length s < length s = omega (arith, ap length from_word, length-drop (blank_length s) s) in
+      let skip = words_skip s in
+      let cut = cut_at t (ap at_word from_word ∙ words_stop s h) in
+      let same : words (drop (blank_length s) s) ≡ words t = ap words (sym from_word) in
+      let front : take m t ≡ take (word_length t) t = ap (λ (k : ℕ). take k t) em in
+      let back : words (drop m t) ≡ words (drop (word_length t) t) = ap (λ (k : ℕ). words (drop k t)) em in
+      let rest : words r ≡ words (drop m t) = ap words er in
+      cc

@@ -1,5 +1,5 @@
-ghost use Rattle.std.specs.Prelude.{◌≡◌, IfOk};
-ghost use Rattle.radio_watch.specs.Script.{blank, number, of_two, of_three, reading, items};
+ghost use Rattle.std.specs.Prelude.{◌≡◌, [], ◌∷◌, IfOk, MatchOption};
+ghost use Rattle.radio_watch.specs.Script.{blank, words, number, of_two, of_three, reading, items};
 
 use crate::entry::{Item, Unreadable};
 use call_sheet::call::Call;
@@ -14,6 +14,25 @@ fn is_blank(b: u8) -> bool
     ensures { result ≡ blank b }
 {
     matches!(b, b' ' | b'\t' | b'\r')
+}
+
+// The first word of a text, and what follows it; none where the text has no word. It is looked for byte by byte, since
+// a `split` at blanks stops at each blank of a long run.
+fn first_word(text: &[u8]) -> Option<(&[u8], &[u8])>
+    ensures { MatchOption result (words text.now ≡ []) (λ x. words text.now ≡ x.0.now ∷ words x.1.now) }
+{
+    let start = text
+        .iter()
+        .position(|b| !is_blank(*b))
+        .unwrap_or(text.len());
+    let word = &text[start..];
+    if word.is_empty() {
+        return None;
+    }
+    match word.iter().position(|b| is_blank(*b)) {
+        Some(end) => Some(word.split_at(end)),
+        None => Some((word, &[])),
+    }
 }
 
 // The number that a word writes in decimal, where it writes one and 32 bits hold it. It is read by hand, since
@@ -62,20 +81,24 @@ fn three_words(name: &[u8], line: &[u8], second: &[u8]) -> Result<Call, NotAComm
 
 /// The call that a line of a script asks for; none where the line is blank or a comment. These two answers of
 /// none stand alone: there is no none or error to pass on.
+// In its caller's loop each blank of a long run would take an instruction more.
+#[inline(never)]
 pub fn read_line(line: &[u8]) -> Result<Option<Call>, NotACommand>
     ensures { result ≡ reading line.now }
 {
-    let mut words = line.split(|b| is_blank(*b)).filter(|word| !word.is_empty());
-    let Some(name) = words.next() else {
+    let Some((name, rest)) = first_word(line) else {
         return Ok(None);
     };
     if name.starts_with(b"#") {
         return Ok(None);
     }
-    match (words.next(), words.next(), words.next()) {
-        (Some(argument), None, _) => two_words(name, argument).map(Some),
-        (Some(line), Some(second), None) => three_words(name, line, second).map(Some),
-        _ => Err(NotACommand),
+    let (line, rest) = first_word(rest).ok_or(NotACommand)?;
+    let Some((second, rest)) = first_word(rest) else {
+        return two_words(name, line).map(Some);
+    };
+    match first_word(rest) {
+        None => three_words(name, line, second).map(Some),
+        Some(_) => Err(NotACommand),
     }
 }
 
@@ -84,7 +107,12 @@ pub fn read_script(heap: Global, script: &[u8]) -> Result<Vec<Item>, AllocError>
     ensures { IfOk result (λ v. v.items ≡ items script.now) }
 {
     let mut found = Vec::new(heap);
-    for (index, line) in script.split(|b| *b == b'\n').enumerate() {
+    // An empty line asks for nothing, and a script may have many.
+    for (index, line) in script
+        .split(|b| *b == b'\n')
+        .enumerate()
+        .filter(|(_, line)| !line.is_empty())
+    {
         match read_line(line) {
             Ok(None) => {}
             Ok(Some(call)) => found.push(Ok(call))?,

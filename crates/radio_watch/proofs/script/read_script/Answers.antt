@@ -1,8 +1,8 @@
 use Rattle.std.proofs.Common.{vec_items, Some, None, Ok, Err, sym, ap, ◌∙◌, append-nil, rules}
-use Rattle.std.proofs.lemmas.Iterator.Consumers.{YieldsList-at, YieldsList-end, YieldsList-from_enumerate}
+use Rattle.std.proofs.lemmas.Iterator.Consumers.{YieldsList-at, YieldsList-end, YieldsList-from_enumerate, YieldsList-from_filter}
 use Rattle.std.proofs.lemmas.Iterator.Splits.{YieldsList-from_slice_split}
 use borrow.Author.Tests.{tests}
-use Rattle.radio_watch.proofs.Lines.{line_feed, asked, read_more, all_asked}
+use Rattle.radio_watch.proofs.Lines.{line_feed, asked, filled, filled_is, read_more, all_asked}
 use Rattle.radio_watch.proofs.script.read_script.Goals as goal
 
 pub loop-index-preserved-in-Ok-None : goal.loop-index-preserved-in-Ok-None
@@ -20,7 +20,7 @@ loop-index-preserved c =
 pub returns : goal.returns
 returns c =
     let script = c.args.script.now in
-    let end = YieldsList-end (YieldsList-at c.into_iter-index-iterator.ensures.into_iter_gives (YieldsList-from_enumerate (YieldsList-at c.enumerate-index-items.ensures.source (
+    let end = YieldsList-end (YieldsList-at c.into_iter-index-iterator.ensures.into_iter_gives (YieldsList-from_filter _ (λ x. filled x.1) (YieldsList-at c.filter-index-items.ensures.source (YieldsList-from_enumerate (YieldsList-at c.enumerate.ensures.source (
     YieldsList-from_slice_split _ line_feed script c.split.ensures.rest c.split.ensures.done c.split.ensures.closure (λ x b q k. search (rules, tests))
-    )) c.enumerate-index-items.ensures.count)) c.loop-index.yielded _ c.loop-index.yielded_by _ _ c.in-None.is c.next.ensures.steps in
+    )) c.enumerate.ensures.count)) c.filter-index-items.ensures.closure (λ x b q k. search (rules, filled_is)))) c.loop-index.yielded _ c.loop-index.yielded_by _ _ c.in-None.is c.next.ensures.steps in
     c.loop-index.invariant ∙ ap asked end.0 ∙ all_asked script
