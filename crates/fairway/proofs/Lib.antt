@@ -2,6 +2,7 @@ pub mod Laws
 pub mod Kinetic
 pub mod Fractions
 pub mod Totals
+pub mod SliceCounts
 pub mod Pairwise
 pub mod Sorting
 pub mod Alike

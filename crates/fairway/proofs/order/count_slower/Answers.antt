@@ -1,19 +1,11 @@
-use Rattle.std.proofs.Common.{◌≡◌, ◌^◌, ◌≤◌, length, arith, rules, tests}
-use Rattle.std.proofs.lemmas.Iterator.{YieldsList-from_slice}
-use Rattle.std.proofs.lemmas.Iterator.Adapters.{at_most_from_yields_List, fits_from_length}
-use Rattle.std.proofs.lemmas.List.Sums.{count_by-le-length}
+use Rattle.std.proofs.Common.{rules, tests}
 use Rattle.fairway.specs.Courses.{faster}
-use Rattle.fairway.specs.Orders.{slower_than}
+use Rattle.fairway.proofs.SliceCounts.{ones_fit, count_fits}
 use Rattle.fairway.proofs.order.count_slower.Goals as goal
 
 -- each course adds 1 at most
 pub sum-requires-clause-fits : goal.sum-requires-clause-fits
-sum-requires-clause-fits c =
-    let n : length c.args.courses.now ≤ 2 ^ 63 = search rules in
-    fits_from_length _ _ (2 ^ 63) _ (at_most_from_yields_List (YieldsList-from_slice c.args.courses.now (cc)) n) c.map.ensures.closure (omega arith) (λ x r q k. search (rules, tests))
+sum-requires-clause-fits c = ones_fit _ _ c.args.courses.now (cc) (search rules) c.map.ensures.closure (λ x r q k. search (rules, tests))
 
 pub returns-clause-few : goal.returns-clause-few
-returns-clause-few c =
-    let xs = c.args.courses.now in
-    let e : c.sum.result ≡ slower_than c.args.rear xs = search rules in
-    omega (arith, e, count_by-le-length (faster c.args.rear) xs)
+returns-clause-few c = count_fits (faster c.args.rear) c.args.courses.now (search rules)

@@ -3,6 +3,7 @@ use Rattle.std.proofs.iter.runs.Made.{chains}
 use Rattle.fairway.specs.Stamps.{time_of}
 use Rattle.std.specs.Bool.{Decides}
 use Rattle.fairway.specs.Courses.{Due}
+use Rattle.fairway.specs.Lists.{FirstDuePlace}
 use Rattle.fairway.proofs.Lists.{nobody, of_window, due_told}
 use Rattle.fairway.proofs.order.first_due.Goals as goal
 
@@ -19,4 +20,5 @@ returns c =
     let before : (i : ℕ) → c.position.result ≡ Some i → (k : ℕ) → k < i → Decides false (Due t (get_or xs k nobody) (get_or xs (k + 1) nobody)) =
     λ i e k l. let m = rw e at c.position.ensures.runs.2 in
     (of_window (λ r f. Decides false (Due t r f)) xs _ _ k (p.at k) (search rules) (search rules) (w.2 k) ((m.1 (λ a r f k. search rules)).1 k l) (λ x h. search rules)).1 in
-    due_told t xs c.position.result none due before
+    let told : FirstDuePlace t xs c.position.result = due_told t xs c.position.result none due before in
+    search rules

@@ -2,6 +2,8 @@ use Rattle.std.proofs.Common.{◌≡◌, ℕ, ◌+◌, ◌<◌, List, length, ge
 use Rattle.std.specs.List.{slice_range}
 use Rattle.std.proofs.lemmas.Bool.Decides.{not_from_Decides}
 use Rattle.std.proofs.lemmas.Grind.{common_steps}
+use Rattle.std.proofs.lemmas.List.{set-get_or, set_comm}
+use Rattle.std.proofs.lemmas.List.Edits.{swap_is}
 use Rattle.fairway.specs.Stamps.{time_of}
 use Rattle.fairway.specs.Courses.{Due}
 use Rattle.fairway.specs.declared.course.Course.{Course}
@@ -32,4 +34,4 @@ returns c =
     let p = first_two xs c.unwrap_or.result.now i (grind (arith, common_steps)) in
     let d : Due (time_of c.args.at) (get_or xs i nobody) (get_or xs (i + 1) nobody) = rw (p.0, p.1) (rw c.new.ensures at (c.is_due.ensures.0 c.if-not-is_due.false)) in
     let l : i + 1 < length xs = search rules in
-    (get_or xs i nobody, get_or xs (i + 1) nobody, exchanged (time_of c.args.at) xs _ i nobody l (search rules) d)
+    (get_or xs i nobody, get_or xs (i + 1) nobody, exchanged (time_of c.args.at) xs _ i nobody l (grind (arith, common_steps, swap_is, set-get_or, set_comm)) d)

@@ -1,4 +1,4 @@
-use Rattle.std.proofs.Common.{◌≡◌, ℤ, Bool, true, false, cond, refl, ◌∙◌, int_lt, w16, to_z, of_z, Some, Less, Equal, Greater, rules}
+use Rattle.std.proofs.Common.{◌≡◌, ℤ, Bool, true, false, cond, refl, ◌∙◌, int_lt, to_z, of_z, Some, Less, Equal, Greater, rules}
 use mir.Syntax.{w128}
 use Rattle.std.specs.Ordering.{is_some_and, is_lt, partial_ordering_then}
 use Rattle.fairway.specs.Stamps.{time_of}
@@ -57,8 +57,6 @@ returns c =
     let y = place (time_of c.args.at) c.args.other in
     let p : to_z w128 (of_z w128 c.position_at-own.result) ≡ c.position_at-own.result = search rules in
     let q : to_z w128 (of_z w128 c.position_at-others.result) ≡ c.position_at-others.result = search rules in
-    let u : to_z w16 (of_z w16 c.args.self.speed) ≡ c.args.self.speed = search rules in
-    let w : to_z w16 (of_z w16 c.args.other.speed) ≡ c.args.other.speed = search rules in
-    (rw (u, w) at c.lt.ensures) ∙ by_parts _ _ _ _ ∙
+    c.lt.ensures ∙ by_parts _ _ _ _ ∙ search rules ∙
     alike x y _ (placed _ _ x y _ _ false c.if-own-others.false p q c.position_at-own.ensures c.position_at-others.ensures)
     (placed _ _ y x _ _ false c.if-others-own.false q p c.position_at-others.ensures c.position_at-own.ensures)
