@@ -1,7 +1,7 @@
 -- The tests that refusals rest on, and what they tell.
-use Rattle.std.proofs.Common.{◌≡◌, ◌<◌, Bool, true, false, not, Some, None, Option, MatchOption, sym, refl, ap, ◌∙◌, ⊎_elim, arith}
+use Rattle.std.proofs.Common.{◌≡◌, ◌<◌, Bool, true, false, Some, None, Option, MatchOption, sym, refl, ap, ◌∙◌, arith}
 use Rattle.std.proofs.lemmas.Int.{ints}
-use Rattle.std.proofs.lemmas.Bool.{both_ways, cases_Bool, false≢true}
+use Rattle.std.proofs.lemmas.Bool.{both_ways, false≢true}
 use Rattle.fairway.specs.Times.{Time}
 use Rattle.std.specs.Bool.{Decides}
 use Rattle.fairway.specs.Courses.{InRange, Due}
@@ -15,12 +15,6 @@ within c e n = grind (arith, ints)
 pub of_range : (c : Course) → InRange c → out_of_range c ≡ false
 unfolding out_of_range
 of_range c r = grind (arith, ints)
-
--- the range under another number
-pub told_out : (c : Course) (b : Bool) → Decides b (InRange (record { number = 1; speed = c.speed; base = c.base })) → not b ≡ out_of_range c
-unfolding out_of_range
-told_out c true d = let r = d.0 refl in let e = of_range _ r in sym e
-told_out c false d = ⊎_elim (λ e. sym e) (λ e. absurd (false≢true (d.1 (within _ e (omega arith))))) (cases_Bool (out_of_range c))
 
 -- ---- a pair that is due
 pub pair_is_due : (t : Time) (r f : Course) → pair_due t r f ≡ true → Due t r f

@@ -10,6 +10,7 @@ use fairway::stamp::Stamp;
 
 /// Whether the speed is above 1,000 or the base above 33,654,432,000 in size: whether the course is out of range
 /// under any number.
+#[tactic(auto, unfolding(crate::specs::Limits::out_of_range))]
 pub fn is_out_of_range(course: Course) -> bool
     ensures value { result ≡ out_of_range course }
     ensures within { result ≡ false → 0 < course.number → InRange course }
