@@ -1,4 +1,4 @@
-use Rattle.std.proofs.Common.{◌≡◌, ◌+◌, slice_get, ap, ◌∙◌}
+use Rattle.std.proofs.Common.{◌≡◌, ◌+◌, slice_get, rules}
 use Rattle.sorted_list.specs.Ranks.{NextAhead}
 use Rattle.sorted_list.proofs.Beside.{get_copied, stands_ahead}
 use Rattle.sorted_list.proofs.Changes.{placed_at}
@@ -12,5 +12,5 @@ returns c =
     let xs = s.courses.items in
     let i = c.in_ok-place.place in
     let p = placed_at n xs i c.in_ok-place.ensures.1 in
-    let e : c.copied.result ≡ slice_get xs (i + 1) = c.copied.ensures ∙ get_copied c.deref.result.now (i + 1) c.get.result c.get.ensures.lookup ∙ ap (λ l. slice_get l (i + 1)) c.deref.ensures.value in
+    let e : c.copied.result ≡ slice_get xs (i + 1) = search (rules, get_copied) in
     beside s n NextAhead c.in_ok-place.ensures.0 e (stands_ahead xs s.sound n i p.0 p.2) (next_in_front xs s.sound n i p.0 p.2)

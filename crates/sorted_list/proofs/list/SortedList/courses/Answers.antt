@@ -1,4 +1,5 @@
-use Rattle.std.proofs.Common.{sym, refl, subst}
+use Rattle.std.proofs.Common.{refl, subst, rules}
+use Rattle.std.proofs.lemmas.List.{take_all}
 use Rattle.fairway.proofs.Sorting.{order_is}
 use Rattle.sorted_list.specs.Questions.{CoursesAnswer}
 use Rattle.sorted_list.specs.RostersLemmas.{well_apart}
@@ -9,7 +10,7 @@ pub returns : goal.returns
 returns c =
     let s = c.args.self.now in
     let xs = s.courses.items in
-    subst (CoursesAnswer s) (sym c.as_slice.ensures.value)
+    subst (CoursesAnswer s) (search (rules, take_all))
     (record {
       value = refl;
       apart = well_apart xs s.sound;

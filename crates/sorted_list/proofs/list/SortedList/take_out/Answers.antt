@@ -1,4 +1,4 @@
-use Rattle.std.proofs.Common.{◌≡◌, ◌+◌, true, sym, ap, ◌∙◌, subst, arith}
+use Rattle.std.proofs.Common.{◌≡◌, ◌+◌, true, sym, subst, arith, rules}
 use Rattle.fairway.specs.Orders.{load}
 use Rattle.sorted_list.specs.Rosters.{well}
 use Rattle.sorted_list.specs.Loads.{crossed}
@@ -12,7 +12,7 @@ parts c =
     let ys = c.remove-gone.new.self.items in
     let i = c.args.place in
     let x = c.remove-gone.result in
-    let fewer : c.crossings-fewer.result ≡ crossed ys i x = c.crossings-fewer.ensures.count ∙ ap (λ l. crossed l i x) c.as_slice.ensures.value in
+    let fewer : c.crossings-fewer.result ≡ crossed ys i x = search rules in
     omega (arith, fewer, load_removed xs ys i x (omega arith) c.remove-gone.ensures.items c.remove-gone.ensures.value)
 
 pub overflow_sub-self : goal.overflow_sub-self

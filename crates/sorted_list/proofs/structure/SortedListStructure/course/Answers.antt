@@ -1,4 +1,4 @@
-use Rattle.std.proofs.Common.{Some, sym, ap, ◌∙◌}
+use Rattle.std.proofs.Common.{Some, sym, ap, ◌∙◌, get_or, rules}
 use Rattle.sorted_list.specs.Places.{place_in}
 use Rattle.sorted_list.proofs.Changes.{placed_at, not_placed}
 use Rattle.sorted_list.proofs.structure.SortedListStructure.course.Goals as goal
@@ -14,4 +14,4 @@ returns c =
     let n = c.args.number in
     let xs = c.args.self.now.courses.items in
     let p = placed_at n xs c.in_ok-place.place (sym (c.in_ok-place.ensures ∙ ap (place_in n) c.as_slice.ensures.value)) in
-    ap Some c.index.ensures ∙ sym (p.2 c.index.result.now)
+    ap Some (c.index.ensures ∙ ap (λ i. get_or xs i c.index.result.now) (search rules)) ∙ sym (p.2 c.index.result.now)
